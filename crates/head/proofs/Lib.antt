@@ -1,1 +1,5 @@
 pub mod Tables
+pub mod Bounds
+pub mod Wants
+pub mod Relax
+pub mod Starts

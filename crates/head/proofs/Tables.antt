@@ -1,15 +1,21 @@
 -- What holds of every setting, by one computed test over the table.
 use mathlib.Core.Path.{_≡_, refl, subst, sym, ap, _∙_}
-use mathlib.Core.Bool.{Bool, true, _&&_}
-use Prim.Native.Nat.{ℕ, zero, suc, _<_}
+use mathlib.Core.Bool.{Bool, true, false, cond, _&&_}
+use mathlib.Core.Logic.{⊎-elim}
+use Prim.Native.Nat.{ℕ, zero, suc, _+_, _<_}
 use native.Mathlib.Omega.{arith}
-use lib.Dec.{ltb}
+use lib.Dec.{eqb}
+use lib.IntN.{ℤ}
 use lib.ListN.{getD}
-use Rattle.std.proofs.shelf.Tests.{eqb-true, ltb-true}
+use Rattle.std.specs.declared.option.Option.{Option}
+use Rattle.std.specs.declared.option.Option.the-variants.{Some, None}
+use Rattle.std.proofs.shelf.Tests.{eqb-true, eqb-false, cases-bool}
 use Rattle.std.proofs.shelf.Ways.{decides-below-and}
 use Rattle.head.specs.declared.setting.Setting.{Setting}
 use Rattle.head.specs.declared.setting.Setting.the-variants.{Power, Zoom, ZoomDrive, FocusMode, Focus, FocusDrive, WhiteBalance, RedGain, BlueGain, ExposureMode, Shutter, Iris, Gain, Bright, Freeze, Mute, Infrared, Identity, Pan, Tilt, PanDrive, TiltDrive}
-use Rattle.head.specs.Settings.{all, number, same}
+use Rattle.head.specs.declared.setting.Axis.{Axis}
+use Rattle.head.specs.declared.setting.Axis.the-variants as axis
+use Rattle.head.specs.Settings.{about, all, number, same, position}
 
 abbrev all-below : (ℕ → Bool) → ℕ → Bool
 all-below p zero = true
@@ -80,3 +86,32 @@ each p h s =
 -- settings with one number are one
 pub same-is : (s z : Setting) → same s z ≡ true → s ≡ z
 same-is s z h = sym (in-place s) ∙ ap (λ (n : ℕ). getD all n Power) (eqb-true (number s) (number z) h) ∙ in-place z
+
+pub number-at : (k : ℕ) → k < 22 → number (getD all k Power) ≡ k
+number-at k h =
+    eqb-true (number (getD all k Power)) k (each-below (λ n. eqb (number (getD all n Power)) n) 22 refl k h)
+
+-- one setting more that a loop over the table has given its value
+pub passed-more : (k : ℕ) (x : Setting) (taken : Bool) (w : ℤ) (old new g : Setting → ℤ) → number x ≡ k → taken ≡ true → w ≡ g x
+    → ((s : Setting) → new s ≡ cond (taken && same s x) w (old s)) → ((s : Setting) → number s < k → old s ≡ g s)
+    → (s : Setting) → number s < k + 1 → new s ≡ g s
+passed-more k x taken w old new g e t v is past s h =
+    ⊎-elim
+    (λ (b : same s x ≡ true). is s ∙ simp (t, b) (v ∙ ap g (sym (same-is s x b))))
+    (λ (b : same s x ≡ false). is s ∙ simp (t, b) (past s (omega (arith, eqb-false (number s) (number x) b))))
+    (cases-bool (same s x))
+
+-- what is the position of an axis, by the table
+abbrev tied : Setting → Option Axis → Bool
+tied s None = true
+tied s (Some a) = same (position a) s
+
+pub position-is : (s : Setting) (a : Axis) → about s .axis ≡ Some a → position a ≡ s
+position-is s a e =
+    same-is (position a) s (subst (λ (x : Option Axis). tied s x ≡ true) e (each (λ z. tied z (about z .axis)) refl s))
+
+pub axis-is : (a : Axis) → about (position a) .axis ≡ Some a
+axis-is axis.Zoom = refl
+axis-is axis.Focus = refl
+axis-is axis.Pan = refl
+axis-is axis.Tilt = refl

@@ -1,3 +1,4 @@
 pub mod Settings
 pub mod Orders
 pub mod Meaning
+pub mod Values

@@ -5,7 +5,7 @@ use Prim.Native.Nat.{ℕ}
 use lib.Dec.{eqb, ltb}
 use lib.IntN.{ℤ, pos, negsuc}
 use lib.ListN.{getD}
-use lib.Signed.{leZ}
+use lib.Signed.{leZ, _≤ℤ_}
 use Rattle.std.specs.declared.option.Option.{Option}
 use Rattle.std.specs.declared.option.Option.the-variants.{Some, None}
 use Rattle.std.specs.Options.{mapped}
@@ -85,6 +85,11 @@ within (Span low high) v = leZ low v && leZ v high
 -- shut, since a search through several of them breaks off at a bound
 unfoldable pub in-range : Setting → ℤ → Bool
 in-range s v = within (about s .range) v
+
+-- the bounds of every value of every setting
+pub record Small (v : ℤ) : Type 0 where
+  pub low : negsuc 5119 ≤ℤ v
+  pub high : v ≤ℤ pos 65535
 
 -- the value of a setting in a list of 22, by number
 abbrev pub value-in : List ℤ → Setting → ℤ

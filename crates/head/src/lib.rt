@@ -12,7 +12,6 @@ pub mod table;
 pub mod target;
 pub mod traits;
 
-pub use start::admit;
 pub use order::Order;
 pub use order::Paces;
 pub use outcome::Ending;
@@ -22,6 +21,7 @@ pub use setting::Axis;
 pub use setting::Range;
 pub use setting::Setting;
 pub use settings::Settings;
+pub use start::admit;
 pub use target::Target;
 pub use target::Targets;
 pub use traits::Head;

@@ -29,7 +29,11 @@ impl Order {
     pub fn new(targets: Targets, paces: Paces) -> Option<Order>
         ensures { λ r. ⌜ Cases r (different (parts targets) ≡ false) (λ o. (o .targets ≡ targets) × (o .paces ≡ paces)) ⌝ }
     {
-        if targets.differ() { Some(Order { targets, paces }) } else { None }
+        if targets.differ() {
+            Some(Order { targets, paces })
+        } else {
+            None
+        }
     }
 
     /// The value that the setting is to get, if the order names it.

@@ -4,7 +4,7 @@ ghost use mathlib.Core.Path.{_≡_};
 ghost use mathlib.Core.Bool.{true, cond, _&&_};
 ghost use lib.IntN.{ℤ};
 ghost use Rattle.head.specs.declared.setting.Setting.{Setting as S};
-ghost use Rattle.head.specs.Settings.{about, same, in-range, value-in};
+ghost use Rattle.head.specs.Settings.{about, same, in-range, Small, value-in};
 use crate::setting::Setting;
 
 /// A value in range for each of the 22 settings.
@@ -22,14 +22,36 @@ impl Settings {
     {
         Settings {
             values: [
-                2, 0, 0, 2, 0, 0, 0, 0, 0, 0, 0, 0, 0, 0, 3, 3, 3, 0, 0, 0, 0, 0,
+                2,
+                0,
+                0,
+                2,
+                0,
+                0,
+                0,
+                0,
+                0,
+                0,
+                0,
+                0,
+                0,
+                0,
+                3,
+                3,
+                3,
+                0,
+                0,
+                0,
+                0,
+                0,
             ],
         }
     }
 
     /// The value of a setting.
     pub fn get(&self, setting: Setting) -> i32
-        ensures { λ r. ⌜ r ≡ value-in (now (self .entry) .values) setting ⌝ }
+        ensures is { λ r. ⌜ r ≡ value-in (now (self .entry) .values) setting ⌝ }
+        ensures small { λ r. ⌜ Small r ⌝ }
     {
         self.values[setting.number() as usize]
     }

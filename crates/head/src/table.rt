@@ -49,7 +49,11 @@ impl Setting {
     pub fn from_number(n: u8) -> Option<Setting>
         ensures { λ r. ⌜ r ≡ numbered n ⌝ }
     {
-        if n < COUNT { Some(ALL[n as usize]) } else { None }
+        if n < COUNT {
+            Some(ALL[n as usize])
+        } else {
+            None
+        }
     }
 
     /// The values that the setting may have.

@@ -27,7 +27,11 @@ impl Target {
     fn or(self, setting: Setting, rest: Option<i32>) -> Option<i32>
         ensures { λ r. ⌜ r ≡ wanted-first self setting rest ⌝ }
     {
-        if self.setting.is(setting) { Some(self.value) } else { rest }
+        if self.setting.is(setting) {
+            Some(self.value)
+        } else {
+            rest
+        }
     }
 
     fn in_range(self) -> bool

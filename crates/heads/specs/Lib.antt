@@ -1,0 +1,5 @@
+pub mod Motion
+pub mod Exact
+pub mod Rigs
+pub mod Heads
+pub mod Punctual
