@@ -3,6 +3,7 @@
 //! `Look` and `Head` are the two traits that everything above is written against; a head of any
 //! make implements them and proves their promises, and whatever is built on heads is proved once.
 
+pub mod names;
 pub mod order;
 pub mod outcome;
 pub mod setting;
@@ -12,6 +13,7 @@ pub mod table;
 pub mod target;
 pub mod traits;
 
+pub use names::SettingDisplay;
 pub use order::Order;
 pub use order::Paces;
 pub use outcome::Ending;

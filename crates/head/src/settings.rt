@@ -22,28 +22,28 @@ impl Settings {
     {
         Settings {
             values: [
-                2,
-                0,
-                0,
-                2,
-                0,
-                0,
-                0,
-                0,
-                0,
-                0,
-                0,
-                0,
-                0,
-                0,
-                3,
-                3,
-                3,
-                0,
-                0,
-                0,
-                0,
-                0,
+                2, // power
+                0, // zoom
+                0, // zoom drive
+                2, // focus mode
+                0, // focus
+                0, // focus drive
+                0, // white balance
+                0, // red gain
+                0, // blue gain
+                0, // exposure mode
+                0, // shutter
+                0, // iris
+                0, // gain
+                0, // bright
+                3, // freeze
+                3, // mute
+                3, // infrared
+                0, // identity
+                0, // pan
+                0, // tilt
+                0, // pan drive
+                0, // tilt drive
             ],
         }
     }
@@ -53,7 +53,8 @@ impl Settings {
         ensures is { λ r. ⌜ r ≡ value-in (now (self .entry) .values) setting ⌝ }
         ensures small { λ r. ⌜ Small r ⌝ }
     {
-        self.values[setting.number() as usize]
+        let n = setting.number();
+        self.values[n as usize]
     }
 
     /// Gives a setting a value of its range; a value out of it is refused, and changes nothing.

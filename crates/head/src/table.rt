@@ -113,8 +113,8 @@ impl Setting {
 }
 
 impl Range {
-    /// Whether the value is one of the range.
-    pub fn contains(self, value: i32) -> bool
+    // Whether the value is one of the range.
+    fn contains(self, value: i32) -> bool
         ensures { λ r. ⌜ r ≡ within self value ⌝ }
     {
         match self {

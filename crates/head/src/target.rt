@@ -43,7 +43,7 @@ impl Target {
 
 impl Targets {
     /// The value that the setting is to get, if it is named.
-    pub fn get(self, setting: Setting) -> Option<i32>
+    pub(crate) fn get(self, setting: Setting) -> Option<i32>
         ensures { λ r. ⌜ r ≡ wants (parts self) setting ⌝ }
     {
         match self {
@@ -64,7 +64,7 @@ impl Targets {
     }
 
     /// Whether no setting is named twice.
-    pub fn differ(self) -> bool
+    pub(crate) fn differ(self) -> bool
         ensures { λ r. ⌜ r ≡ different (parts self) ⌝ }
     {
         match self {
@@ -82,7 +82,7 @@ impl Targets {
     }
 
     /// Whether every target is in the range of its setting.
-    pub fn in_range(self) -> bool
+    pub(crate) fn in_range(self) -> bool
         ensures { λ r. ⌜ r ≡ all-in-range (parts self) ⌝ }
     {
         match self {
@@ -96,7 +96,7 @@ impl Targets {
     }
 
     /// Whether pan, tilt or one of their drives is named.
-    pub fn pan_or_tilt(self) -> bool
+    pub(crate) fn pan_or_tilt(self) -> bool
         ensures { λ r. ⌜ r ≡ any-pan-tilt (parts self) ⌝ }
     {
         self.names(Setting::Pan)
@@ -106,7 +106,7 @@ impl Targets {
     }
 
     /// Whether some setting is named by both.
-    pub fn meet(self, other: Targets) -> bool
+    pub(crate) fn meet(self, other: Targets) -> bool
         ensures { λ r. ⌜ r ≡ shares (parts self) (parts other) ⌝ }
     {
         match self {

@@ -17,6 +17,9 @@ use head::Look;
 use head::Order;
 use head::Refusal;
 
+const PAN_TILT: bool = false;
+
+#[derive(Drop)]
 pub struct Block {
     rig: Rig,
 }
@@ -41,7 +44,7 @@ pub impl Look for Block as BlockLook {
     }
 
     fn has_pan_tilt(&self) -> bool {
-        false
+        PAN_TILT
     }
 }
 
@@ -56,7 +59,7 @@ pub impl Head for Block as BlockHead {
         ensures started { λ r. ⌜ Started (block (now (self .entry))) slot order (answered r) (block (now (self .exit))) ⌝ }
         ensures one_tick { λ r. ⌜ (answered r ≡ 0 → block (now (self .exit)) .slots ≡ put (block (now (self .entry)) .slots) slot (busy order 1)) ⌝ }
     {
-        self.rig.start(Motion::AtOnce, false, slot, order)
+        self.rig.start(Motion::AtOnce, PAN_TILT, slot, order)
     }
 
     fn tick(&mut self) -> Endings

@@ -8,6 +8,7 @@ ghost use Rattle.heads.specs.Punctual.{punctual};
 use crate::rig::Rig;
 
 /// Settings and slots; and where the dome is not stalled, every order arrives within its ticks.
+#[derive(Drop)]
 pub struct Dome {
     pub(crate) rig: Rig,
     // Made so: no position ever moves.

@@ -19,6 +19,8 @@ use head::Look;
 use head::Order;
 use head::Refusal;
 
+const PAN_TILT: bool = true;
+
 impl Dome {
     /// A dome with its first settings, both slots idle; with the stall mark it never moves a
     /// position.
@@ -54,7 +56,7 @@ pub impl Look for Dome as DomeLook {
     }
 
     fn has_pan_tilt(&self) -> bool {
-        true
+        PAN_TILT
     }
 }
 
@@ -71,7 +73,7 @@ pub impl Head for Dome as DomeHead {
         ensures stalled { λ _. ⌜ now (self .exit) .stalled ≡ now (self .entry) .stalled ⌝ }
     {
         let motion = self.motion();
-        self.rig.start(motion, true, slot, order)
+        self.rig.start(motion, PAN_TILT, slot, order)
     }
 
     fn tick(&mut self) -> Endings

@@ -10,6 +10,7 @@ use crate::job::Job;
 use head::Settings;
 
 /// The settings and the slots of a head. No setting is named by both orders.
+#[derive(Drop)]
 pub struct Rig {
     pub(crate) settings: Settings,
     pub(crate) one: Option<Job>,

@@ -11,7 +11,7 @@ use Rattle.head.proofs.settings.Settings.get.Needs as need
 
 pub returns : need.returns
 returns c =
-    let e : toZ w32 (ofZ w32 (getD (c .args .self .now .values) (c .number .result) (pos 0))) ≡ value-in (c .args .self .now .values) (c .args .setting) = search needs in
+    let e : toZ w32 (ofZ w32 (getD (c .args .self .now .values) (c .number-n .result) (pos 0))) ≡ value-in (c .args .self .now .values) (c .args .setting) = search needs in
     record {
       is = e;
       small = subst (λ (v : ℤ). Small v) (sym e) (small (c .args .setting) (value-in (c .args .self .now .values) (c .args .setting)) (c .args .self .now .ranged (c .args .setting)));
