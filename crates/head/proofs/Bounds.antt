@@ -14,7 +14,9 @@ use Rattle.head.specs.declared.setting.Range.{Range}
 use Rattle.head.specs.declared.setting.Range.the-variants.{Switch, WhiteBalance, Exposure, Span}
 use Rattle.head.specs.declared.setting.Setting.{Setting}
 use Rattle.head.specs.Settings.{about, within, in-range, position, Small}
+use Rattle.head.specs.declared.settings.Settings.{Settings}
 use Rattle.head.specs.Meaning.{Between}
+use Rattle.head.specs.Values.{value-of}
 use Rattle.head.proofs.Tables.{each}
 
 -- a span within the bounds of small values; a list of values passes
@@ -40,6 +42,10 @@ small-within (Span low high) v s h =
 pub small : (s : Setting) (v : ℤ) → in-range s v ≡ true → Small v
 unfolding in-range
 small s v h = small-within (about s .range) v (each (λ z. narrow (about z .range)) refl s) h
+
+-- and so is what the settings of a head hold
+pub settings-small : (x : Settings) (s : Setting) → Small (value-of x s)
+settings-small x s = small s (value-of x s) (x .ranged s)
 
 between-span : (low high v w t : ℤ) → (leZ low v && leZ v high) ≡ true → (leZ low t && leZ t high) ≡ true → Between v w t → (leZ low w && leZ w high) ≡ true
 between-span low high v w t h g b =

@@ -4,7 +4,7 @@ ghost use mathlib.Core.Path.{_≡_};
 ghost use mathlib.Core.Bool.{true, cond, _&&_};
 ghost use lib.IntN.{ℤ};
 ghost use Rattle.head.specs.declared.setting.Setting.{Setting as S};
-ghost use Rattle.head.specs.Settings.{about, same, in-range, Small, value-in};
+ghost use Rattle.head.specs.Settings.{about, same, in-range, value-in};
 use crate::setting::Setting;
 
 /// A value in range for each of the 22 settings.
@@ -50,8 +50,7 @@ impl Settings {
 
     /// The value of a setting.
     pub fn get(&self, setting: Setting) -> i32
-        ensures is { λ r. ⌜ r ≡ value-in (now (self .entry) .values) setting ⌝ }
-        ensures small { λ r. ⌜ Small r ⌝ }
+        ensures { λ r. ⌜ r ≡ value-in (now (self .entry) .values) setting ⌝ }
     {
         let n = setting.number();
         self.values[n as usize]

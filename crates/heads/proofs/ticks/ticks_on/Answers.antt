@@ -24,7 +24,7 @@ ticks-is : (c : need.After-div-ceil) → c .div-ceil .result ≡ rounded-up (nat
 ticks-is c =
     let f : SFits w32 (c .get .result) = search needs in
     let g : SFits w32 (c .in-Some .target) = search needs in
-    let v = c .get .ensures .is ∙ ap (value-of (c .args .settings .now)) (c .position-in-Some .ensures) in
+    let v = c .get .ensures ∙ ap (value-of (c .args .settings .now)) (c .position-in-Some .ensures) in
     let d : c .abs-diff-distance .result ≡ natAbs (value-of (c .args .settings .now) (position (c .args .axis)) -ℤ c .in-Some .target) =
     c .abs-diff-distance .ensures
     ∙ ap (λ (x : ℤ). natAbs (x -ℤ toZ w32 (ofZ w32 (c .in-Some .target)))) (toZ-ofZ w32 (c .get .result) f ∙ v)
