@@ -3,3 +3,4 @@ pub mod Bounds
 pub mod Wants
 pub mod Relax
 pub mod Starts
+pub mod Made

@@ -5,6 +5,7 @@
 
 pub mod names;
 pub mod order;
+pub mod orders;
 pub mod outcome;
 pub mod setting;
 pub mod settings;

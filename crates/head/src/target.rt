@@ -82,7 +82,7 @@ impl Targets {
     }
 
     /// Whether every target is in the range of its setting.
-    pub(crate) fn in_range(self) -> bool
+    pub fn in_range(self) -> bool
         ensures { λ r. ⌜ r ≡ all-in-range (parts self) ⌝ }
     {
         match self {
