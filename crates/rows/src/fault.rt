@@ -1,0 +1,10 @@
+//! What is wrong with a body, by the layer that finds it.
+
+/// Found by the row search.
+#[derive(Clone, Copy)]
+pub enum RowFault {
+    /// Fault 6: no row of its kind has that category and code.
+    NoSuchCode,
+    /// Fault 7: a row has them, and none admits what stands behind them.
+    NoSuchOperands,
+}
