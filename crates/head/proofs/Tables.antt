@@ -9,13 +9,13 @@ use lib.IntN.{ℤ}
 use lib.ListN.{getD}
 use Rattle.std.specs.declared.option.Option.{Option}
 use Rattle.std.specs.declared.option.Option.the-variants.{Some, None}
-use Rattle.std.proofs.shelf.Tests.{eqb-true, eqb-false, cases-bool}
+use Rattle.std.proofs.shelf.Tests.{eqb-true, eqb-false, lt-ltb, cases-bool}
 use Rattle.std.proofs.shelf.Ways.{decides-below-and}
 use Rattle.head.specs.declared.setting.Setting.{Setting}
 use Rattle.head.specs.declared.setting.Setting.the-variants.{Power, Zoom, ZoomDrive, FocusMode, Focus, FocusDrive, WhiteBalance, RedGain, BlueGain, ExposureMode, Shutter, Iris, Gain, Bright, Freeze, Mute, Infrared, Identity, Pan, Tilt, PanDrive, TiltDrive}
 use Rattle.head.specs.declared.setting.Axis.{Axis}
 use Rattle.head.specs.declared.setting.Axis.the-variants as axis
-use Rattle.head.specs.Settings.{about, all, number, same, position}
+use Rattle.head.specs.Settings.{about, all, number, looked, same, position}
 
 abbrev all-below : (ℕ → Bool) → ℕ → Bool
 all-below p zero = true
@@ -90,6 +90,10 @@ same-is s z h = sym (in-place s) ∙ ap (λ (n : ℕ). getD all n Power) (eqb-tr
 pub number-at : (k : ℕ) → k < 22 → number (getD all k Power) ≡ k
 number-at k h =
     eqb-true (number (getD all k Power)) k (each-below (λ n. eqb (number (getD all n Power)) n) 22 refl k h)
+
+-- looking at a setting's number tells its value
+pub looked-is : (f : Setting → ℤ) (s : Setting) → looked f (number s) ≡ Some (f s)
+looked-is f s = simp (lt-ltb (number s) 22 (below s), in-place s)
 
 -- one setting more that a loop over the table has given its value
 pub passed-more : (k : ℕ) (x : Setting) (taken : Bool) (w : ℤ) (old new g : Setting → ℤ) → number x ≡ k → taken ≡ true → w ≡ g x

@@ -1,5 +1,6 @@
 -- The codes of rows, and the settings that they stand for.
 use mathlib.Core.Bool.{cond}
+use mathlib.Core.List.{List, [], _∷_}
 use Prim.Native.Nat.{ℕ}
 use lib.Dec.{eqb}
 use Rattle.std.specs.declared.option.Option.{Option}
@@ -9,29 +10,16 @@ use Rattle.head.specs.declared.setting.Setting.the-variants.{FocusMode, WhiteBa
 use Rattle.rows.specs.declared.codes.Codes.{Codes}
 use Rattle.rows.specs.declared.codes.Codes.the-variants.{One, Modes, Levels}
 
--- the settings of one digit
-abbrev pub mode-of : ℕ → Option Setting
-mode-of c =
-    cond (eqb c 0x38) (Some FocusMode)
-    (cond (eqb c 0x35) (Some WhiteBalance)
-    (cond (eqb c 0x39) (Some ExposureMode)
-    (cond (eqb c 0x62) (Some Freeze)
-    (cond (eqb c 0x75) (Some Mute)
-    (cond (eqb c 0x01) (Some Infrared)
-    None)))))
+-- codes and their settings
+abbrev pub pairs : Codes → List (ℕ × Setting)
+pairs (One d s) = (d, s) ∷ []
+pairs Modes = (0x38, FocusMode) ∷ (0x35, WhiteBalance) ∷ (0x39, ExposureMode) ∷ (0x62, Freeze) ∷ (0x75, Mute) ∷ (0x01, Infrared) ∷ []
+pairs Levels = (0x43, RedGain) ∷ (0x44, BlueGain) ∷ (0x4a, Shutter) ∷ (0x4b, Iris) ∷ (0x4c, Gain) ∷ (0x4d, Bright) ∷ []
 
--- the settings of two digits
-abbrev pub level-of : ℕ → Option Setting
-level-of c =
-    cond (eqb c 0x43) (Some RedGain)
-    (cond (eqb c 0x44) (Some BlueGain)
-    (cond (eqb c 0x4a) (Some Shutter)
-    (cond (eqb c 0x4b) (Some Iris)
-    (cond (eqb c 0x4c) (Some Gain)
-    (cond (eqb c 0x4d) (Some Bright)
-    None)))))
+abbrev pub coded : List (ℕ × Setting) → ℕ → Option Setting
+coded [] c = None
+coded (p ∷ ps) c = cond (eqb c (p .0)) (Some (p .1)) (coded ps c)
 
+-- the setting that a code stands for
 abbrev pub setting-of : Codes → ℕ → Option Setting
-setting-of (One d s) c = cond (eqb c d) (Some s) None
-setting-of Modes c = mode-of c
-setting-of Levels c = level-of c
+setting-of cs c = coded (pairs cs) c

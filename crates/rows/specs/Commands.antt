@@ -45,6 +45,6 @@ commands =
     ∷ row 0x06 (One 0x04 Pan) Home
     ∷ []
 
--- what a command is read as, behind its first byte
-abbrev pub read-command : List ℕ → Result (ℕ × Order) RowFault
+-- what a command is read as, behind its first byte; shut, since the table is long
+unfoldable pub read-command : List ℕ → Result (ℕ × Order) RowFault
 read-command body = found row-has row-reads commands body

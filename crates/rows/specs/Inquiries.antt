@@ -43,6 +43,6 @@ inquiries =
     ∷ row 0x06 (One 0x12 Pan) PanTilt
     ∷ []
 
--- what an inquiry is read as, behind its first byte
-abbrev pub read-inquiry : List ℕ → Result (ℕ × Inquiry) RowFault
+-- what an inquiry is read as, behind its first byte; shut, since the table is long
+unfoldable pub read-inquiry : List ℕ → Result (ℕ × Inquiry) RowFault
 read-inquiry body = found row-has row-reads inquiries body

@@ -4,3 +4,6 @@ pub mod Codes
 pub mod Reading
 pub mod Commands
 pub mod Inquiries
+pub mod Requests
+pub mod Answers
+pub mod OneRow

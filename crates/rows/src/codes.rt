@@ -1,7 +1,7 @@
 //! The codes of rows, and the settings that they stand for.
 
 ghost use mathlib.Core.Path.{_≡_};
-ghost use Rattle.rows.specs.Codes.{setting-of, mode-of, level-of};
+ghost use Rattle.rows.specs.Codes.{setting-of};
 use head::Setting;
 
 /// Which codes a row has.
@@ -16,7 +16,7 @@ pub enum Codes {
 }
 
 fn mode(code: u8) -> Option<Setting>
-    ensures { λ r. ⌜ r ≡ mode-of code ⌝ }
+    ensures { λ r. ⌜ r ≡ setting-of Codes.Modes code ⌝ }
 {
     match code {
         0x38 => Some(Setting::FocusMode),
@@ -30,7 +30,7 @@ fn mode(code: u8) -> Option<Setting>
 }
 
 fn level(code: u8) -> Option<Setting>
-    ensures { λ r. ⌜ r ≡ level-of code ⌝ }
+    ensures { λ r. ⌜ r ≡ setting-of Codes.Levels code ⌝ }
 {
     match code {
         0x43 => Some(Setting::RedGain),
