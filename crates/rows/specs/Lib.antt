@@ -7,3 +7,4 @@ pub mod Inquiries
 pub mod Requests
 pub mod Answers
 pub mod OneRow
+pub mod Tried

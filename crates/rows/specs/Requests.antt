@@ -15,6 +15,8 @@ use Rattle.rows.specs.declared.request.Request.the-variants.{Command, Ask}
 use Rattle.rows.specs.Commands.{read-command}
 use Rattle.rows.specs.Inquiries.{read-inquiry}
 use Rattle.rows.specs.Search as rows
+use Rattle.wire.specs.declared.fault.FaultCode.{FaultCode}
+use Rattle.wire.specs.Framing.{code}
 
 abbrev pub as-command : Result (ℕ × Order) RowFault → Result Request PacketFault
 as-command (Ok p) = Ok (Command (p .0) (p .1))
@@ -28,15 +30,7 @@ abbrev pub read-body : List ℕ → Result Request PacketFault
 read-body [] = Err UnknownBody
 read-body (t ∷ rest) = cond (eqb t 0x01) (as-command (read-command rest)) (cond (eqb t 0x09) (as-inquiry (read-inquiry rest)) (Err UnknownBody))
 
--- the faults of packets: number, layer and place; a row's is passed on whole
-abbrev pub fault-number : PacketFault → ℕ
-fault-number UnknownBody = 5
-fault-number (Row f) = rows.fault-number f
-
-abbrev pub fault-layer : PacketFault → ℕ
-fault-layer UnknownBody = 2
-fault-layer (Row f) = rows.fault-layer f
-
-abbrev pub fault-place : PacketFault → ℕ
-fault-place UnknownBody = 1
-fault-place (Row f) = rows.fault-place f
+-- each fault's number, layer and place; a row's is passed on whole
+abbrev pub code-of : PacketFault → FaultCode
+code-of UnknownBody = code 5 2 1
+code-of (Row f) = rows.code-of f

@@ -8,6 +8,8 @@ use Rattle.std.specs.declared.result.Result.{Result}
 use Rattle.std.specs.declared.result.Result.the-variants.{Ok, Err}
 use Rattle.rows.specs.declared.fault.RowFault.{RowFault}
 use Rattle.rows.specs.declared.fault.RowFault.the-variants.{NoSuchCode, NoSuchOperands}
+use Rattle.wire.specs.declared.fault.FaultCode.{FaultCode}
+use Rattle.wire.specs.Framing.{code}
 
 -- what a row makes of a category, a code and operands, if it admits them
 abbrev pub meaning : {X M : Type 0} → (X → ℕ → ℕ → Bool) → (X → ℕ → List ℕ → Option M) → ℕ → ℕ → List ℕ → X → Option M
@@ -36,14 +38,7 @@ found has reads rows [] = Err NoSuchCode
 found has reads rows (k ∷ []) = Err NoSuchCode
 found has reads rows (k ∷ c ∷ os) = found-or (first-of (meaning has reads k c os) rows) (any-of (λ x. has x k c) rows)
 
--- the faults of rows: number, layer and place
-abbrev pub fault-number : RowFault → ℕ
-fault-number NoSuchCode = 6
-fault-number NoSuchOperands = 7
-
-abbrev pub fault-layer : RowFault → ℕ
-fault-layer f = 3
-
-abbrev pub fault-place : RowFault → ℕ
-fault-place NoSuchCode = 2
-fault-place NoSuchOperands = 4
+-- each fault's number, layer and place
+abbrev pub code-of : RowFault → FaultCode
+code-of NoSuchCode = code 6 3 2
+code-of NoSuchOperands = code 7 3 4

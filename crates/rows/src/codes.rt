@@ -49,13 +49,7 @@ impl Codes {
         ensures { λ r. ⌜ r ≡ setting-of self code ⌝ }
     {
         match self {
-            Codes::One(one, setting) => {
-                if code == one {
-                    Some(setting)
-                } else {
-                    None
-                }
-            }
+            Codes::One(one, setting) => { if code == one { Some(setting) } else { None } }
             Codes::Modes => mode(code),
             Codes::Levels => level(code),
         }

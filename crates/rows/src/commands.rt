@@ -1,7 +1,8 @@
 //! The command rows: what packets make the head do.
 
 ghost use mathlib.Core.Path.{_≡_};
-ghost use Rattle.rows.specs.Commands.{row-has, row-reads, commands, read-command};
+ghost use Rattle.rows.specs.Commands.{row-has, row-reads, read-command};
+ghost use Rattle.rows.specs.OneRow.{ByOneRow};
 use crate::codes::Codes;
 use crate::fault::RowFault;
 use crate::operands::Operands;
@@ -113,10 +114,11 @@ pub const COMMANDS: [CommandRow; 12] = [
     },
 ];
 
-/// Reads a command behind its first byte, `01`: the place of the row that admits it, from 0, and
+/// Reads a command behind its first byte, `01`: the place of the one row that admits it, from 0, and
 /// the order that it is.
 pub fn read_command(body: &[u8]) -> Result<(usize, Order), RowFault>
-    ensures { λ r. ⌜ r ≡ read-command (now (body .entry)) ⌝ }
+    ensures is { λ r. ⌜ r ≡ read-command (now (body .entry)) ⌝ }
+    ensures one_row { λ r. ⌜ ByOneRow (now (body .entry)) r ⌝ }
 {
     find_row(&COMMANDS, body)
 }

@@ -18,7 +18,11 @@ pub(crate) fn word(p: u8, q: u8, r: u8, s: u8) -> Option<u16>
 pub(crate) fn signed(n: u16) -> i32
     ensures { λ r. ⌜ r ≡ signedOf n ⌝ }
 {
-    if n < 0x8000 { n as i32 } else { n as i32 - 0x1_0000 }
+    if n < 0x8000 {
+        n as i32
+    } else {
+        n as i32 - 0x1_0000
+    }
 }
 
 /// And back: the sixteen bits of a value.

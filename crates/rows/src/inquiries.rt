@@ -1,7 +1,7 @@
 //! The inquiry rows: what packets ask of whatever can be looked at.
 
 ghost use mathlib.Core.Path.{_≡_};
-ghost use Rattle.rows.specs.Inquiries.{row-has, row-reads, asks, read-inquiry};
+ghost use Rattle.rows.specs.Inquiries.{row-has, row-reads, read-inquiry};
 use crate::codes::Codes;
 use crate::fault::RowFault;
 use crate::row::Row;

@@ -11,6 +11,7 @@ mod operands;
 mod reading;
 mod request;
 mod row;
+pub mod tried;
 
 pub use answers::answer;
 pub use codes::Codes;

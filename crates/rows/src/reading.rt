@@ -181,7 +181,12 @@ fn pan_tilt(v: u8, w: u8, x: i32, y: i32) -> Option<Order>
         tilt: w,
     };
     ranged(
-        Targets::Four(pan, tilt, at(Setting::PanDrive, 0), at(Setting::TiltDrive, 0)),
+        Targets::Four(
+            pan,
+            tilt,
+            at(Setting::PanDrive, 0),
+            at(Setting::TiltDrive, 0),
+        ),
         paces,
     )
 }

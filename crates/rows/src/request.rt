@@ -4,13 +4,15 @@ ghost use mathlib.Core.Path.{_≡_};
 ghost use Rattle.rows.specs.declared.fault.PacketFault.the-variants.{Row as RowF};
 ghost use Rattle.rows.specs.Commands.{read-command};
 ghost use Rattle.rows.specs.Inquiries.{read-inquiry};
-ghost use Rattle.rows.specs.Requests.{as-command, as-inquiry, read-body};
+ghost use Rattle.rows.specs.Requests.{as-command, as-inquiry, read-body, code-of as packetCode};
+ghost use Rattle.rows.specs.Search.{code-of as rowCode};
 use crate::commands::read_command;
 use crate::fault::PacketFault;
 use crate::fault::RowFault;
 use crate::inquiries::Inquiry;
 use crate::inquiries::read_inquiry;
 use head::Order;
+use wire::FaultCode;
 
 /// What a packet for this end asks for.
 #[derive(Clone, Copy)]
@@ -51,5 +53,38 @@ pub fn read(body: &[u8]) -> Result<Request, PacketFault>
         [0x01, rest @ ..] => command(rest),
         [0x09, rest @ ..] => asked(rest),
         _ => Err(PacketFault::UnknownBody),
+    }
+}
+
+impl RowFault {
+    /// Number, layer and place of the fault.
+    pub fn code(self) -> FaultCode
+        ensures { λ r. ⌜ r ≡ rowCode self ⌝ }
+    {
+        let (number, place) = match self {
+            RowFault::NoSuchCode => (6, 2),
+            RowFault::NoSuchOperands => (7, 4),
+        };
+        FaultCode {
+            number,
+            layer: 3,
+            place,
+        }
+    }
+}
+
+impl PacketFault {
+    /// Number, layer and place of the fault; a row's is passed on whole.
+    pub fn code(self) -> FaultCode
+        ensures { λ r. ⌜ r ≡ packetCode self ⌝ }
+    {
+        match self {
+            PacketFault::UnknownBody => FaultCode {
+                number: 5,
+                layer: 2,
+                place: 1,
+            },
+            PacketFault::Row(fault) => fault.code(),
+        }
     }
 }

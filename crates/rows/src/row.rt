@@ -36,12 +36,7 @@ fn admitted<R: Row>(row: &R, category: u8, code: u8, operands: &[u8]) -> Option<
 }
 
 // The first row that admits them, by its place, with what it makes of them.
-fn first<R: Row>(
-    rows: &[R],
-    category: u8,
-    code: u8,
-    operands: &[u8],
-) -> Option<(usize, R::Meaning)>
+fn first<R: Row>(rows: &[R], category: u8, code: u8, operands: &[u8]) -> Option<(usize, R::Meaning)>
     ensures { λ r. ⌜ r ≡ first-of (meaning (R·Row .has) (R·Row .reads) category code (now (operands .entry))) (now (rows .entry)) ⌝ }
 {
     for (i, row) in rows.iter().enumerate() {

@@ -8,6 +8,7 @@ use Rattle.std.specs.declared.option.Option.{Option}
 use Rattle.std.specs.declared.option.Option.the-variants.{Some, None}
 use Rattle.std.specs.declared.result.Result.{Result}
 use Rattle.std.specs.declared.result.Result.the-variants.{Ok, Err}
+use Rattle.wire.specs.declared.fault.FaultCode.{FaultCode}
 use Rattle.wire.specs.declared.framer.Framer.{Framer}
 use Rattle.wire.specs.declared.framer.FramingFault.{FramingFault}
 use Rattle.wire.specs.declared.framer.FramingFault.the-variants.{NoHeader, NoBody, Overlong}
@@ -40,19 +41,14 @@ event (begun bs) b =
     (cond (eqb (length bs) 15) (Err Overlong) (Ok None))
 event skipping b = Ok None
 
--- each fault's number and place; its layer is 1
-abbrev pub fault-number : FramingFault → ℕ
-fault-number NoHeader = 2
-fault-number NoBody = 3
-fault-number Overlong = 4
+-- each fault's number, layer and place
+abbrev pub code : ℕ → ℕ → ℕ → FaultCode
+code n l p = record { number = n; layer = l; place = p }
 
-abbrev pub fault-layer : FramingFault → ℕ
-fault-layer f = 1
-
-abbrev pub fault-place : FramingFault → ℕ
-fault-place NoHeader = 0
-fault-place NoBody = 1
-fault-place Overlong = 15
+abbrev pub code-of : FramingFault → FaultCode
+code-of NoHeader = code 2 1 0
+code-of NoBody = code 3 1 1
+code-of Overlong = code 4 1 15
 
 -- The framer and its packets, as the definitions above speak of them.
 

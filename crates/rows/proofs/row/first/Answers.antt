@@ -15,7 +15,7 @@ returns-in-Some g c =
     let f = meaning (g .R·Row .has) (g .R·Row .reads) (c .args .category) (c .args .code) (c .args .operands .now) in
     let l : i < length rows = omega arith in
     let t : (d : g .R .Denot) → f (getD rows i d) ≡ Some (c .in-Some .m) = λ d.
-        ap f (sym (getD-read rows i (c .index-rows-i .result) l (c .index-rows-i .is) d)) ∙ sym (c .in-Some .ensures tt) in
+    ap f (sym (getD-read rows i (c .index-rows-i .result) l (c .index-rows-i .is) d)) ∙ sym (c .in-Some .ensures tt) in
     first-found f rows i (c .in-Some .m) l t (c .loop-i .inv)
 
 pub returns : need.returns
