@@ -1,7 +1,7 @@
 //! The command rows: what packets make the head do.
 
 ghost use mathlib.Core.Path.{_≡_};
-ghost use Rattle.rows.specs.Commands.{row-has, row-reads, read-command};
+ghost use Rattle.rows.specs.Commands.{row-has, row-reads, commands, read-command};
 ghost use Rattle.rows.specs.OneRow.{ByOneRow};
 use crate::codes::Codes;
 use crate::fault::RowFault;
@@ -114,11 +114,18 @@ pub const COMMANDS: [CommandRow; 12] = [
     },
 ];
 
+fn table() -> [CommandRow; 12]
+    ensures { λ r. ⌜ r ≡ commands ⌝ }
+{
+    COMMANDS
+}
+
 /// Reads a command behind its first byte, `01`: the place of the one row that admits it, from 0, and
 /// the order that it is.
 pub fn read_command(body: &[u8]) -> Result<(usize, Order), RowFault>
     ensures is { λ r. ⌜ r ≡ read-command (now (body .entry)) ⌝ }
     ensures one_row { λ r. ⌜ ByOneRow (now (body .entry)) r ⌝ }
 {
-    find_row(&COMMANDS, body)
+    let rows = table();
+    find_row(&rows, body)
 }

@@ -1,7 +1,7 @@
 //! The inquiry rows: what packets ask of whatever can be looked at.
 
 ghost use mathlib.Core.Path.{_≡_};
-ghost use Rattle.rows.specs.Inquiries.{row-has, row-reads, read-inquiry};
+ghost use Rattle.rows.specs.Inquiries.{row-has, row-reads, inquiries, read-inquiry};
 use crate::codes::Codes;
 use crate::fault::RowFault;
 use crate::row::Row;
@@ -105,10 +105,17 @@ pub const INQUIRIES: [InquiryRow; 7] = [
     },
 ];
 
+fn table() -> [InquiryRow; 7]
+    ensures { λ r. ⌜ r ≡ inquiries ⌝ }
+{
+    INQUIRIES
+}
+
 /// Reads an inquiry behind its first byte, `09`: the place of the row that admits it, from 0, and
 /// what it asks.
 pub fn read_inquiry(body: &[u8]) -> Result<(usize, Inquiry), RowFault>
     ensures { λ r. ⌜ r ≡ read-inquiry (now (body .entry)) ⌝ }
 {
-    find_row(&INQUIRIES, body)
+    let rows = table();
+    find_row(&rows, body)
 }

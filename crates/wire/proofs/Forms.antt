@@ -2,13 +2,12 @@
 use mathlib.Core.Path.{_≡_, refl, sym, ap, _∙_}
 use mathlib.Core.Bool.{Bool, true, false, not, _&&_}
 use mathlib.Core.List.{List, [], _∷_, _++_}
-use Prim.Native.Nat.{ℕ, _+_, _-_, _≤_}
+use Prim.Native.Nat.{ℕ, _+_, _≤_}
 use native.Mathlib.Omega.{arith}
 use lib.Dec.{eqb, leb}
-use lib.ListN.{length, take, drop, length-append}
-use Rattle.std.proofs.shelf.Lists.{length-take-le, drop-take, take-take}
+use lib.ListN.{length, length-append}
 use Rattle.std.proofs.shelf.Tests.{and-parts, and-from, leb-true, le-leb, not-from-false, not-true}
-use Rattle.wire.specs.Packets.{is-header, no-end, opens, closes, is-packet, body-of}
+use Rattle.wire.specs.Packets.{is-header, no-end, opens, closes, is-packet}
 
 no-end-more : (bs : List ℕ) (b : ℕ) → no-end bs ≡ true → eqb b 0xff ≡ false → no-end (bs ++ b ∷ []) ≡ true
 no-end-more [] b h e = and-from (not (eqb b 0xff)) true (not-from-false (eqb b 0xff) e) refl
@@ -50,21 +49,3 @@ packet-some (c ∷ bs) h =
     let (x, y) = and-parts (is-header c && closes bs && leb 2 (length bs)) (leb (length bs) 15) h in
     let (v, w) = and-parts (is-header c && closes bs) (leb 2 (length bs)) x in
     omega (arith, leb-true 2 (length bs) w)
-
--- of a buffer of 16 bytes whose first n are a packet
-module _ (bs : List ℕ) (n : ℕ) (l : length bs ≡ 16) (m : n ≤ 16) (f : is-packet (take n bs) ≡ true) where
-  pub many : length (take n bs) ≡ n
-  many = length-take-le n bs (omega arith)
-
-  pub three : 3 ≤ n
-  three = omega (arith, packet-some (take n bs) f, many)
-
-  pub middle : take (n - 1 - 1) (drop 1 bs) ≡ body-of (take n bs)
-  middle =
-      let e : n ≡ 1 + (n - 1) = omega (arith, three) in
-      let k : n - 1 - 1 ≡ n - 2 = omega arith in
-      ap (λ (j : ℕ). take j (drop 1 bs)) k
-      ∙ sym (ap (λ (j : ℕ). take (j - 2) (drop 1 (take n bs))) many
-      ∙ ap (λ (j : ℕ). take (n - 2) (drop 1 (take j bs))) e
-      ∙ ap (take (n - 2)) (drop-take 1 (n - 1) bs)
-      ∙ take-take (n - 2) (n - 1) (drop 1 bs) (omega (arith, three)))
