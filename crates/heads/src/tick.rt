@@ -27,14 +27,8 @@ fn arrives(motion: Motion, settings: &Settings, order: Order, axis: Axis) -> boo
 {
     match order.target(axis.position()) {
         Some(target) => {
-            target
-                == moved(
-                    motion,
-                    order.paces,
-                    axis,
-                    settings.get(axis.position()),
-                    target,
-                )
+            let from = settings.get(axis.position());
+            target == moved(motion, order.paces, axis, from, target)
         }
         None => true,
     }

@@ -9,5 +9,5 @@ use Rattle.heads.proofs.tick.arrives.Needs as need
 
 pub moved-requires : need.moved-requires
 moved-requires c κs =
-    let s = subst (λ (v : ℤ). Small v) (sym (c .get .ensures ∙ ap (value-of (c .args .settings .now)) (c .position-in-Some .ensures))) (settings-small (c .args .settings .now) (position (c .args .axis))) in
+    let s = subst (λ (v : ℤ). Small v) (sym (c .get-from .ensures ∙ ap (value-of (c .args .settings .now)) (c .position-in-Some .ensures))) (settings-small (c .args .settings .now) (position (c .args .axis))) in
     record { low = omega (arith, ints); high = omega (arith, ints) }
