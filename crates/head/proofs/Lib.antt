@@ -1,3 +1,4 @@
+pub mod Options
 pub mod Tables
 pub mod Bounds
 pub mod Wants

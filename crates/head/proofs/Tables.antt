@@ -1,4 +1,4 @@
--- What holds of every setting, by one computed test over the table.
+-- What holds of each number below a bound, and so of every setting, by one computed test.
 use mathlib.Core.Path.{_≡_, refl, subst, sym, ap, _∙_}
 use mathlib.Core.Bool.{Bool, true, false, cond, _&&_}
 use mathlib.Core.Logic.{⊎-elim}
@@ -17,11 +17,11 @@ use Rattle.head.specs.declared.setting.Axis.{Axis}
 use Rattle.head.specs.declared.setting.Axis.the-variants as axis
 use Rattle.head.specs.Settings.{about, all, number, looked, same, position}
 
-abbrev all-below : (ℕ → Bool) → ℕ → Bool
+abbrev pub all-below : (ℕ → Bool) → ℕ → Bool
 all-below p zero = true
 all-below p (suc n) = p n && all-below p n
 
-each-below : (p : ℕ → Bool) (n : ℕ) → all-below p n ≡ true → (k : ℕ) → k < n → p k ≡ true
+pub each-below : (p : ℕ → Bool) (n : ℕ) → all-below p n ≡ true → (k : ℕ) → k < n → p k ≡ true
 each-below p n h =
     decides-below-and p (λ k. p k ≡ true) (all-below p) (λ k. (λ e. e, λ e. e)) refl (λ _. refl) n .0 h
 

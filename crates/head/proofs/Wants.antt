@@ -14,14 +14,12 @@ use Rattle.head.specs.declared.setting.Setting.{Setting}
 use Rattle.head.specs.declared.target.Target.{Target}
 use Rattle.head.specs.Settings.{same, in-range}
 use Rattle.head.specs.Orders.{wants, names, all-in-range, shares}
+use Rattle.head.proofs.Options.{no-some, some-out}
 use Rattle.head.proofs.Tables.{same-is}
-
-some-out : {a b : ℤ} → Some a ≡ Some b → a ≡ b
-some-out e = cc
 
 -- what an order wants is in range, where its targets are
 pub wants-in-range : (ts : List Target) (s : Setting) (t : ℤ) → all-in-range ts ≡ true → wants ts s ≡ Some t → in-range s t ≡ true
-wants-in-range [] s t h e = let z : _≡_ {A = ℕ} 0 1 = cc in absurd (omega arith)
+wants-in-range [] s t h e = no-some e
 wants-in-range (u ∷ us) s t h e =
     let p = and-parts (in-range (u .setting) (u .value)) (all-in-range us) h in
     ⊎-elim
@@ -37,7 +35,7 @@ not-some (Some t) h = let z : _≡_ {A = ℕ} 0 1 = cc in absurd (omega arith)
 
 -- of two orders that share no setting, each names none of the other's
 pub apart : (ts us : List Target) → shares ts us ≡ false → (s : Setting) (t : ℤ) → wants ts s ≡ Some t → wants us s ≡ None
-apart [] us h s t e = let z : _≡_ {A = ℕ} 0 1 = cc in absurd (omega arith)
+apart [] us h s t e = no-some e
 apart (u ∷ ts) us h s t e =
     let p = or-parts (names us (u .setting)) (shares ts us) h in
     ⊎-elim

@@ -23,6 +23,7 @@ use Rattle.head.specs.declared.setting.Setting.{Setting}
 use Rattle.head.specs.Settings.{about, in-range, position, drive}
 use Rattle.head.specs.Orders.{parts, wants}
 use Rattle.head.specs.Meaning.{Slot, idle, busy, Timed, SlotTicked, Pulled, Driven, Meaning, wanted, Strict}
+use Rattle.head.proofs.Options.{no-some}
 use Rattle.head.proofs.Tables.{position-is, axis-is}
 use Rattle.heads.specs.declared.motion.Motion.{Motion}
 use Rattle.heads.specs.declared.motion.Motion.the-variants.{AtOnce, Stepwise, Stalled}
@@ -57,12 +58,6 @@ driven-lawful Stepwise a v d h = held-driven a v d h
 driven-lawful Stalled a v d h = record { rises = λ p. omega (arith, ints); falls = λ p. omega (arith, ints); stands = λ p. refl }
 
 -- Endings.
-
-no-some : {A : Type 0} {x : A} {P : Type 0} → None ≡ Some x → P
-no-some e = let z : _≡_ {A = ℕ} 0 1 = cc in absurd (omega arith)
-
-some-out : {A : Type 0} {x y : A} → Some x ≡ Some y → x ≡ y
-some-out e = cc
 
 is-there : (v t : ℤ) → is-at v (Some t) ≡ true → v ≡ t
 is-there v t h = let (p, q) = and-parts (leZ v t) (leZ t v) h in omega (arith, ints)

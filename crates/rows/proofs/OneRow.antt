@@ -8,12 +8,13 @@ use native.Mathlib.Omega.{arith}
 use lib.Dec.{eqb}
 use lib.ListN.{length, getD}
 use Rattle.std.proofs.shelf.Tests.{and-parts, and-from, or-left, or-right, or-cases, eqb-true, eq-eqb, cases-bool, not-from-true, both-ways}
-use Rattle.std.proofs.shelf.Ways.{decides-below-and}
 use Rattle.std.specs.Options.{isSome}
 use Rattle.std.specs.declared.option.Option.{Option}
 use Rattle.std.specs.declared.option.Option.the-variants.{Some, None}
 use Rattle.head.specs.declared.order.Order.{Order}
 use Rattle.head.specs.declared.setting.Setting.{Setting}
+use Rattle.head.proofs.Options.{no-some, some-out}
+use Rattle.head.proofs.Tables.{all-below, each-below}
 use Rattle.rows.specs.declared.codes.Codes.{Codes}
 use Rattle.rows.specs.declared.commands.CommandRow.{CommandRow}
 use Rattle.rows.specs.declared.operands.Operands.{Operands}
@@ -23,9 +24,6 @@ use Rattle.rows.specs.Commands.{row-has, row-reads, commands, read-command}
 use Rattle.rows.specs.OneRow.{row-at, admitted-by, ReadByOne, ByOneRow}
 use Rattle.rows.specs.Reading.{bind, none-of, one-of, four-of, five-of, ten-of, reads}
 use Rattle.rows.specs.Search.{meaning, first-or, first-of, any-of, found-or}
-
-no-some : {A : Type 0} {x : A} {P : Type 0} → None ≡ Some x → P
-no-some e = let z : _≡_ {A = ℕ} 0 1 = cc in absurd (omega arith)
 
 -- Each form has its number of operands.
 
@@ -133,19 +131,11 @@ has r k c os o e = by (row-has r k c) refl
 alike : CommandRow → CommandRow → Bool
 alike r q = eqb (r .category) (q .category) && common (pairs (r .codes)) (pairs (q .codes)) && eqb (arity (r .operands)) (arity (q .operands))
 
-all-below : (ℕ → Bool) → ℕ → Bool
-all-below p zero = true
-all-below p (suc n) = p n && all-below p n
-
-each-below : (p : ℕ → Bool) (n : ℕ) → all-below p n ≡ true → (k : ℕ) → k < n → p k ≡ true
-unfolding all-below
-each-below p n h = decides-below-and p (λ k. p k ≡ true) (all-below p) (λ k. (λ e. e, λ e. e)) refl (λ _. refl) n .0 h
-
 told-apart : ℕ → ℕ → Bool
 told-apart i j = eqb i j || not (alike (row-at i) (row-at j))
 
 tests : all-below (λ i. all-below (told-apart i) 12) 12 ≡ true
-unfolding all-below told-apart alike has-code common arity
+unfolding told-apart alike has-code common arity
 tests = refl
 
 alike-both : (r q : CommandRow) (k c : ℕ) (os : List ℕ) → Has r k c os → Has q k c os → alike r q ≡ true
@@ -175,9 +165,6 @@ one-row i j (k ∷ c ∷ os) o p q e f =
     apart-is j i a (each-below (told-apart j) 12 (each-below (λ x. all-below (told-apart x) 12) 12 tests j q) i p)
 
 -- Reading, by one row or by none.
-
-some-out : {A : Type 0} {x y : A} → Some x ≡ Some y → x ≡ y
-some-out e = cc
 
 -- a first element is either here or later
 here-or-later : {M : Type 0} (y : Option M) (r : Option (ℕ × M)) (i : ℕ) (m : M) → first-or y r ≡ Some (i, m)

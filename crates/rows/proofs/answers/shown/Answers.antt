@@ -3,14 +3,11 @@ use mathlib.Core.Path.{_≡_, sym, subst, ap, _∙_}
 use Prim.Native.Nat.{ℕ}
 use lib.IntN.{ℤ}
 use Rattle.std.proofs.shelf.Signed.{ints}
-use Rattle.std.specs.declared.option.Option.the-variants.{Some}
 use Rattle.head.specs.Settings.{Small, looked}
 use Rattle.head.proofs.Bounds.{small}
+use Rattle.head.proofs.Options.{some-out}
 use Rattle.head.proofs.Tables.{looked-is}
 use Rattle.rows.proofs.answers.shown.Needs as need
-
-some-out : {a b : ℤ} → Some a ≡ Some b → a ≡ b
-some-out e = cc
 
 pub bits-requires : need.bits-requires
 bits-requires g c κs =
