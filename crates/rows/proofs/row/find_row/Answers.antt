@@ -1,4 +1,3 @@
-use mathlib.Core.Path.{_∙_}
 use Prim.Native.Nat.{_≤_}
 use borrow.Author.Needs.{needs}
 use lib.ListN.{length}
@@ -8,4 +7,4 @@ use Rattle.rows.proofs.row.find_row.Needs as need
 pub returns-in-len2-up : need.returns-in-len2-up
 returns-in-len2-up g c =
     let h : 2 ≤ length (c .args .body .now) = search needs in
-    c .search .ensures ∙ found-parts (g .R·Row .has) (g .R·Row .reads) (c .args .rows .now) (c .args .body .now) h
+    found-parts (g .R·Row .has) (g .R·Row .reads) (c .args .rows .now) (c .args .body .now) (c .search .result) h (c .search .ensures)
