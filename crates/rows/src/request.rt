@@ -57,8 +57,8 @@ pub fn read(body: &[u8]) -> Result<Request, PacketFault>
 }
 
 impl RowFault {
-    /// Number, layer and place of the fault.
-    pub fn code(self) -> FaultCode
+    // Number, layer and place of the fault.
+    fn code(self) -> FaultCode
         ensures { λ r. ⌜ r ≡ rowCode self ⌝ }
     {
         let (number, place) = match self {
