@@ -5,7 +5,7 @@ ghost use mathlib.Core.Bool.{true, false};
 ghost use Rattle.head.specs.declared.setting.Setting.{Setting};
 ghost use Rattle.head.specs.Settings.{about};
 ghost use Rattle.head.specs.Values.{value-of};
-ghost use Rattle.head.specs.Meaning.{idle, busy, put, answered, Started, Ticked};
+ghost use Rattle.head.specs.Meaning.{idle, busy, put, answered, Started, Ticked, Dropped};
 ghost use Rattle.heads.specs.Exact.{Ran, longest};
 ghost use Rattle.heads.specs.Rigs.{slots-of};
 ghost use Rattle.heads.specs.Heads.{dome, motion-of};
@@ -86,7 +86,10 @@ pub impl Head for Dome as DomeHead {
         self.rig.tick(motion)
     }
 
-    fn drop_slot(&mut self, slot: u8) {
+    fn drop_slot(&mut self, slot: u8)
+        ensures dropped { λ _. ⌜ Dropped (dome (now (self .entry))) slot (dome (now (self .exit))) ⌝ }
+        ensures stalled { λ _. ⌜ now (self .exit) .stalled ≡ now (self .entry) .stalled ⌝ }
+    {
         self.rig.drop_slot(slot)
     }
 }

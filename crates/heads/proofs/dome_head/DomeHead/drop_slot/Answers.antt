@@ -1,3 +1,4 @@
+use mathlib.Core.Path.{refl}
 use mathlib.Core.Bool.{true}
 use Rattle.heads.specs.Rigs.{means}
 use Rattle.heads.proofs.Punctual.{both-in, unless-stalled, drop-keeps}
@@ -11,4 +12,4 @@ ghost-self c =
     (p, (q, tt))
 
 pub returns : need.returns
-returns c = c .drop-slot .ensures true
+returns c = record { dropped = c .drop-slot .ensures true; stalled = refl }
