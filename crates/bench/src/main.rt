@@ -1,6 +1,8 @@
 //! A bench for the camera end: reads a script, makes each call on one end, and writes what the
 //! calls answer.
 
+#![tactic(auto)]
+
 mod answer;
 mod line;
 mod parse;

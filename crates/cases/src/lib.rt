@@ -1,5 +1,7 @@
 //! Tests over tables, in a crate of their own so that no library is proved twice.
 
+#![tactic(auto)]
+
 #[cfg(test)]
 mod answers;
 #[cfg(test)]

@@ -1,6 +1,8 @@
 //! A lecture room: a dome is sent to the lectern, follows the speaker by its drive, and a dome
 //! that is stalled jams.
 
+#![tactic(auto)]
+
 use head::{Ending, Endings, Head, Look, Order, Paces, Refusal, Setting, Target, Targets};
 use heads::{Block, Dome};
 use std::io;

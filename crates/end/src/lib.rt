@@ -1,6 +1,8 @@
 //! The end of the line at a camera head: bytes come in, packets go out, and the head does what the
 //! packets say.
 
+#![tactic(auto)]
+
 mod call;
 mod calls;
 mod deeds;

@@ -1,6 +1,8 @@
 //! Explains packets to people who look at captures: one packet a line, as hexadecimal text, and
 //! what each is in words.
 
+#![tactic(auto)]
+
 mod order;
 mod packet;
 mod text;

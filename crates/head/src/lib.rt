@@ -3,6 +3,8 @@
 //! `Look` and `Head` are the two traits that everything above is written against; a head of any
 //! make implements them and proves their promises, and whatever is built on heads is proved once.
 
+#![tactic(auto)]
+
 pub mod names;
 pub mod order;
 pub mod orders;

@@ -1,6 +1,8 @@
 //! Our heads: the block, which has no pan and tilt and does every order in one tick, and the
 //! dome, which has both and moves by steps.
 
+#![tactic(auto)]
+
 mod block;
 mod dome;
 mod dome_head;

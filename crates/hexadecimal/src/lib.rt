@@ -1,5 +1,7 @@
 //! Bytes as people write them in packets: two hexadecimal digits each.
 
+#![tactic(auto)]
+
 ghost use Rattle.std.specs.Prelude.{◌≡◌};
 ghost use Rattle.hexadecimal.specs.Digits.{digit_of, byte_of};
 

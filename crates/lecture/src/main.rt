@@ -1,6 +1,8 @@
 //! A lecture over the line: what the joystick sends, what the box answers, and where the camera
 //! looks. Next door, behind a second box, the dome is stalled.
 
+#![tactic(auto)]
+
 mod lecture;
 mod tell;
 mod words;

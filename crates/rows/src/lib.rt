@@ -1,6 +1,8 @@
 //! What packet bodies mean: one row search over tables of rows, command rows that make orders, and
 //! inquiry rows that are answered from whatever can be looked at.
 
+#![tactic(auto)]
+
 mod answers;
 mod codes;
 mod commands;

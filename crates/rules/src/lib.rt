@@ -1,6 +1,8 @@
 //! Decisions that need no state: which rule of the ring a whole packet meets, whether the modes
 //! forbid a command, and what the replies are as bytes.
 
+#![tactic(auto)]
+
 mod modes;
 mod reply;
 mod ring;

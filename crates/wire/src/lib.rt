@@ -3,6 +3,8 @@
 //! Bytes come in one at a time and go through a `Framer`, which tells whole packets and faults.
 //! What is sent goes to the front of a buffer that the caller lends.
 
+#![tactic(auto)]
+
 mod fault;
 mod feed;
 mod framer;
