@@ -1,7 +1,6 @@
 -- An order is what its targets and paces make.
-use Rattle.std.proofs.Common.{◌≡◌, ℕ, Bool, true, false, Some, None, sym, refl, ap, ◌∙◌, arith}
+use Rattle.std.proofs.Common.{◌≡◌, ℕ, Bool, true, false, Some, None, refl, ap, arith}
 use mathlib.Core.Bool.{Bool-set}
-use Rattle.head.specs.declared.order.Order.{Order}
 use Rattle.head.specs.declared.order.Paces.{Paces}
 use Rattle.head.specs.declared.target.Targets.{Targets}
 use Rattle.head.specs.Made.{if_different, made}

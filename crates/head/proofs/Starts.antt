@@ -1,5 +1,5 @@
 -- What is known of an order that no reason turns down.
-use Rattle.std.proofs.Common.{◌≡◌, ℕ, ◌≤◌, Bool, true, false, cond, not, ◌&&◌, ◌||◌, eqb, ◌⊎◌, is_some, Option, sym, refl, ◌∙◌, inl, inr, ⊎_elim, arith}
+use Rattle.std.proofs.Common.{◌≡◌, ℕ, ◌≤◌, Bool, true, false, cond, not, ◌&&◌, ◌||◌, eqb, ◌⊎◌, is_some, Option, refl, inl, inr, ⊎_elim, arith}
 use Rattle.std.proofs.lemmas.Bool.{not-false, or_cases, eqb-true}
 use Rattle.head.specs.declared.order.Order.{Order}
 use Rattle.head.specs.Orders.{parts, all_in_range, any_pan_tilt}

@@ -21,8 +21,8 @@ sum_by Focus v d s g = omega (arith, ints)
 sum_by Pan v d s g = omega (arith, ints)
 sum_by Tilt v d s g = omega (arith, ints)
 
-pub overflow-add-from : goal.overflow-add-from
-overflow-add-from c = simp c.unit.ensures.is (fits_by c.args.axis c.args.from c.args.drive c.requires.from c.requires.drive)
+pub overflow_add-from : goal.overflow_add-from
+overflow_add-from c = simp c.unit.ensures.is (fits_by c.args.axis c.args.from c.args.drive c.requires.from c.requires.drive)
 
 pub returns-in-AtOnce : goal.returns-in-AtOnce
 returns-in-AtOnce c =

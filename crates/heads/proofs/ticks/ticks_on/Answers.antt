@@ -30,8 +30,8 @@ ticks_few c =
     rw (ticks_is c) (few_ticks c.args.order.paces c.args.axis (value_of c.args.settings.now p) c.in-Some.target
     (c.args.settings.now.ranged p) (wants_in_range (parts c.args.order.targets) p c.in-Some.target c.requires (wanted_is c)))
 
-pub overflow-cast-result : goal.overflow-cast-result
-overflow-cast-result c = let h = ticks_few c in search rules
+pub overflow_cast-result : goal.overflow_cast-result
+overflow_cast-result c = let h = ticks_few c in search rules
 
 pub returns-in-Some : goal.returns-in-Some
 returns-in-Some c = record { is = ticks_is c ∙ sym (simp (wanted_is c)); few = ticks_few c }

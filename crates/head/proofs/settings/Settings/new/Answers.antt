@@ -3,6 +3,6 @@ use Rattle.head.specs.Settings.{in_range}
 use Rattle.head.proofs.Tables.{each}
 use Rattle.head.proofs.settings.Settings.new.Goals as goal
 
-pub invariant-of-result : goal.invariant-of-result
+pub invariant_of-result : goal.invariant_of-result
 unfolding in_range
-invariant-of-result c = (each _ refl, tt)
+invariant_of-result c = record { ranged = each _ refl }

@@ -4,8 +4,8 @@ use Rattle.heads.specs.Rigs.{means}
 use Rattle.heads.proofs.Punctual.{both_in, unless_stalled, start_keeps}
 use Rattle.heads.proofs.dome_head.DomeHead.start.Goals as goal
 
-pub invariant-of-self : goal.invariant-of-self
-invariant-of-self c =
+pub invariant_of-self : goal.invariant_of-self
+invariant_of-self c =
     let d = c.args.self.now in
     let m' = means true c.start.new.self in
     let (p, q) = unless_stalled d.stalled m' (λ e.

@@ -6,8 +6,8 @@ use Rattle.heads.proofs.Punctual.{unless_stalled, dome_keeps}
 use Rattle.heads.proofs.Rigs.{ticked}
 use Rattle.heads.proofs.dome_head.DomeHead.tick.Goals as goal
 
-pub invariant-of-self : goal.invariant-of-self
-invariant-of-self c =
+pub invariant_of-self : goal.invariant_of-self
+invariant_of-self c =
     let d = c.args.self.now in
     let r = c.tick.new.self in
     let ran : Ran (motion_of d.stalled) (means true d.rig) c.tick.result (means true r) = simp c.motion-motion.ensures at (c.tick.ensures true) in

@@ -2,5 +2,5 @@ use Rattle.heads.specs.Exact.{slot_of}
 use Rattle.heads.proofs.Apart.{apart_idle}
 use Rattle.heads.proofs.rig.Rig.drop_slot.Goals as goal
 
-pub invariant-of-self-in-2 : goal.invariant-of-self-in-2
-invariant-of-self-in-2 c = (apart_idle (slot_of c.args.self.now.one), tt)
+pub invariant_of-self-in-2 : goal.invariant_of-self-in-2
+invariant_of-self-in-2 c = (apart_idle (slot_of c.args.self.now.one), tt)

@@ -13,19 +13,19 @@ use Rattle.heads.proofs.rig.Rig.start.Goals as goal
 pub ticks-left-requires : goal.ticks-left-requires
 ticks-left-requires c = targets_in_range c.args.pan_tilt c.order.result c.order-2.result c.args.slot c.args.order c.in-Ok.ensures
 
-pub invariant-of-job : goal.invariant-of-job
-invariant-of-job c = (
+pub invariant_of-job : goal.invariant_of-job
+invariant_of-job c = (
   targets_in_range c.args.pan_tilt c.order.result c.order-2.result c.args.slot c.args.order c.in-Ok.ensures,
   (c.ticks-left.ensures.some, (c.ticks-left.ensures.few, tt)),
 )
 
-pub invariant-of-self : goal.invariant-of-self
-invariant-of-self c =
+pub invariant_of-self : goal.invariant_of-self
+invariant_of-self c =
     let h = not_in_use c.args.pan_tilt c.order.result c.order-2.result c.args.slot c.args.order c.in-Ok.ensures in
     (apart_held (slot_of c.args.self.now.two) c.args.order c.ticks-left.result (simp (c.if-slot-eq1.true, c.order-2.ensures) at h), tt)
 
-pub invariant-of-self-else-slot-eq1 : goal.invariant-of-self-else-slot-eq1
-invariant-of-self-else-slot-eq1 c =
+pub invariant_of-self-else-slot-eq1 : goal.invariant_of-self-else-slot-eq1
+invariant_of-self-else-slot-eq1 c =
     let one = slot_of c.args.self.now.one in
     let h = not_in_use c.args.pan_tilt c.order.result c.order-2.result c.args.slot c.args.order c.in-Ok.ensures in
     let k = simp (ne_eqb c.args.slot 1 c.if-slot-eq1.false, c.order.ensures) at h in

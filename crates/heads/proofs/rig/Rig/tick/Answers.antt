@@ -7,8 +7,8 @@ use Rattle.heads.specs.Rigs.{means}
 use Rattle.heads.proofs.Lawful.{rest_apart, moved_one, moved_two, foretold_is}
 use Rattle.heads.proofs.rig.Rig.tick.Goals as goal
 
-pub invariant-of-self-3 : goal.invariant-of-self-3
-invariant-of-self-3 c =
+pub invariant_of-self-3 : goal.invariant_of-self-3
+invariant_of-self-3 c =
     let r = c.args.self.now in
     ((λ s. simp (c.rest-self.ensures, c.rest-self-2.ensures) (rest_apart (slot_of r.one) (slot_of r.two) r.apart s)), tt)
 

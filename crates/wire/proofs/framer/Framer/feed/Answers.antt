@@ -14,15 +14,15 @@ more bs n b l h = let k : n < length bs = omega arith in take_more_set bs n b k
 many : (bs : List ℕ) (n : ℕ) → length bs ≡ 16 → n ≤ 15 → length (take n bs) ≡ n
 many bs n l h = simp length-take (omega arith)
 
-pub invariant-of-self-in-Idle-128-to-254 : goal.invariant-of-self-in-Idle-128-to-254
-invariant-of-self-in-Idle-128-to-254 c =
+pub invariant_of-self-in-Idle-128-to-254 : goal.invariant_of-self-in-Idle-128-to-254
+invariant_of-self-in-Idle-128-to-254 c =
     let bs = c.args.self.now.bytes in
     let l : length bs ≡ 16 = search rules in
     let h : is_header c.args.byte ≡ true = and_from _ _ (le-leb 0x80 c.args.byte (omega arith)) (le-leb c.args.byte 0xfe (omega arith)) in
     (omega arith, (rw (more bs 0 c.args.byte l (omega arith)) (and_from (is_header c.args.byte) true h refl), tt))
 
-pub invariant-of-self-in-Begun-default : goal.invariant-of-self-in-Begun-default
-invariant-of-self-in-Begun-default c =
+pub invariant_of-self-in-Begun-default : goal.invariant_of-self-in-Begun-default
+invariant_of-self-in-Begun-default c =
     let bs = c.args.self.now.bytes in
     let n = c.args.self.now.len in
     let l : length bs ≡ 16 = search rules in
@@ -30,8 +30,8 @@ invariant-of-self-in-Begun-default c =
     let e : eqb c.args.byte 0xff ≡ false = ne_eqb c.args.byte 0xff (omega arith) in
     (omega arith, (simp (c.in-Begun-default.is-0, more bs n c.args.byte l c.args.self.now.room) (opens_more (take n bs) c.args.byte o e), tt))
 
-pub invariant-of-result : goal.invariant-of-result
-invariant-of-result c =
+pub invariant_of-result : goal.invariant_of-result
+invariant_of-result c =
     let bs = c.args.self.now.bytes in
     let n = c.args.self.now.len in
     let l : length bs ≡ 16 = search rules in
