@@ -9,7 +9,7 @@ ghost use Rattle.heads.specs.Exact.{Ran, longest};
 ghost use Rattle.heads.specs.Rigs.{slots_of};
 ghost use Rattle.heads.specs.Heads.{dome, motion_of};
 ghost use Rattle.heads.specs.Punctual.{is_jammed};
-ghost use Rattle.std.proofs.Common.{rules, arith};
+ghost use Rattle.std.proofs.Common.{rules};
 
 use crate::dome::Dome;
 use crate::motion::Motion;
@@ -48,7 +48,7 @@ impl Look for Dome {
 
     ghost pantilt = { λ d. true };
 
-    ghost ranged = { first_of (Prim.search rules, Prim.grind (arith, Self.row.coded.inj)) };
+    ghost ranged = { Prim.search rules };
 
     fn look(&self, number: u8) -> Option<i32> {
         self.rig.look(number)
@@ -62,7 +62,7 @@ impl Look for Dome {
 impl Head for Dome {
     ghost slots = { λ d. slots_of d.rig };
 
-    ghost timed = { first_of (Prim.search rules, Prim.grind (arith, Self.row.coded.inj)) };
+    ghost timed = { Prim.search rules };
 
     fn ticks_left(&self, slot: u8) -> u16 {
         self.rig.ticks_left(slot)

@@ -11,9 +11,9 @@ returns-in-Byte g c =
     let was = view g.H.Look.setting g.H.Look.pantilt g.H.Head.slots c.args.end.now in
     let then = view g.H.Look.setting g.H.Look.pantilt g.H.Head.slots c.byte.new.self in
     record {
-      within = rw c.bytes-sent.ensures d.within;
-      untouched = rw c.bytes-sent.ensures d.untouched;
-      played = λ m cs n bs e v. simp (c.in-Byte.is, c.bytes-sent.ensures) (played_more m cs n bs
+      within = rw c.bytes_sent.ensures d.within;
+      untouched = rw c.bytes_sent.ensures d.untouched;
+      played = λ m cs n bs e v. simp (c.in-Byte.is, c.bytes_sent.ensures) (played_more m cs n bs
           was (Byte c.in-Byte.byte) (length c.args.out.now) (answered c.byte.result) (take (count c.byte.result) c.byte.new.out) then e d.step v);
     }
 
@@ -23,9 +23,9 @@ returns-in-Tick g c =
     let was = view g.H.Look.setting g.H.Look.pantilt g.H.Head.slots c.args.end.now in
     let then = view g.H.Look.setting g.H.Look.pantilt g.H.Head.slots c.tick.new.self in
     record {
-      within = rw c.bytes-sent-in-Tick.ensures d.within;
-      untouched = rw c.bytes-sent-in-Tick.ensures d.untouched;
-      played = λ m cs n bs e v. simp (c.in-Tick.is, c.bytes-sent-in-Tick.ensures) (played_more m cs n bs
+      within = rw c.bytes_sent-in-Tick.ensures d.within;
+      untouched = rw c.bytes_sent-in-Tick.ensures d.untouched;
+      played = λ m cs n bs e v. simp (c.in-Tick.is, c.bytes_sent-in-Tick.ensures) (played_more m cs n bs
           was Tick (length c.args.out.now) (answered c.tick.result) (take (count c.tick.result) c.tick.new.out) then e d.step v);
     }
 

@@ -10,21 +10,21 @@ use Rattle.heads.proofs.Spans.{few_ticks}
 use Rattle.heads.proofs.ticks.ticks_on.Goals as goal
 
 -- the target, and the ticks to it
-wanted_is : (c : goal.After-div-ceil) → wants (parts c.args.order.targets) (position c.args.axis) ≡ Some c.in-Some.target
+wanted_is : (c : goal.After-div_ceil) → wants (parts c.args.order.targets) (position c.args.axis) ≡ Some c.in-Some.target
 wanted_is c = simp c.position.ensures at (sym c.in-Some.ensures)
 
-ticks_is : (c : goal.After-div-ceil) → c.div-ceil.result ≡ rounded_up (nat_abs (value_of c.args.settings.now (position c.args.axis) -ℤ c.in-Some.target)) (step c.args.order.paces c.args.axis)
+ticks_is : (c : goal.After-div_ceil) → c.div_ceil.result ≡ rounded_up (nat_abs (value_of c.args.settings.now (position c.args.axis) -ℤ c.in-Some.target)) (step c.args.order.paces c.args.axis)
 ticks_is c =
     let f : SFits w32 c.get.result = search rules in
     let g : SFits w32 c.in-Some.target = search rules in
     let v = c.get.ensures ∙ ap (value_of c.args.settings.now) c.position-in-Some.ensures in
-    let d : c.abs-diff-distance.result ≡ nat_abs (value_of c.args.settings.now (position c.args.axis) -ℤ c.in-Some.target) =
-    c.abs-diff-distance.ensures
+    let d : c.abs_diff-distance.result ≡ nat_abs (value_of c.args.settings.now (position c.args.axis) -ℤ c.in-Some.target) =
+    c.abs_diff-distance.ensures
     ∙ ap (λ (x : ℤ). nat_abs (x -ℤ to_z w32 (of_z w32 c.in-Some.target))) (to_z-of_z w32 c.get.result f ∙ v)
     ∙ ap (λ (x : ℤ). nat_abs (value_of c.args.settings.now (position c.args.axis) -ℤ x)) (to_z-of_z w32 c.in-Some.target g) in
-    c.div-ceil.ensures ∙ simp (d, c.step.ensures)
+    c.div_ceil.ensures ∙ simp (d, c.step.ensures)
 
-ticks_few : (c : goal.After-div-ceil) → c.div-ceil.result ≤ 640
+ticks_few : (c : goal.After-div_ceil) → c.div_ceil.result ≤ 640
 ticks_few c =
     let p = position c.args.axis in
     rw (ticks_is c) (few_ticks c.args.order.paces c.args.axis (value_of c.args.settings.now p) c.in-Some.target

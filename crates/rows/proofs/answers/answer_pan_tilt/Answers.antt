@@ -8,7 +8,7 @@ returns g c =
     let h = c.args.header in
     let pan = c.shown.result in
     let tilt = c.shown-2.result in
-    let p : g.L.Look.pantilt x ≡ true = sym c.has-pan-tilt.ensures ∙ c.if-not-has-pan-tilt.false in
+    let p : g.L.Look.pantilt x ≡ true = sym c.has_pan_tilt.ensures ∙ c.if-not-has_pan_tilt.false in
     let e : h ∷ 0x50 ∷ get_or pan 0 0 ∷ get_or pan 1 0 ∷ get_or pan 2 0 ∷ get_or pan 3 0 ∷ get_or tilt 0 0 ∷ get_or tilt 1 0 ∷ get_or tilt 2 0 ∷ get_or tilt 3 0 ∷ 0xff ∷ []
     ≡ pan_tilt_answered h (g.L.Look.setting x) (g.L.Look.pantilt x) = simp (c.shown.ensures, c.shown-2.ensures, p) in
     record {

@@ -12,5 +12,5 @@ pub returns : goal.returns
 unfolding read_command
 returns c =
     let b = c.args.body.now in
-    let e : c.find-row.result ≡ read_command b = c.find-row.ensures ∙ ap (λ (rows : List CommandRow). found row_has row_reads rows b) c.table-rows.ensures in
+    let e : c.find_row.result ≡ read_command b = c.find_row.ensures ∙ ap (λ (rows : List CommandRow). found row_has row_reads rows b) c.table-rows.ensures in
     record { is = e; one_row = subst (λ (r : Result (ℕ × Order) RowFault). ByOneRow b r) (sym e) (read_by_one_row b) }

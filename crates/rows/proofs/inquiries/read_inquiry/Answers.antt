@@ -6,4 +6,4 @@ use Rattle.rows.proofs.inquiries.read_inquiry.Goals as goal
 
 pub returns : goal.returns
 unfolding read_inquiry
-returns c = c.find-row.ensures ∙ ap (λ (rows : List InquiryRow). found row_has row_reads rows c.args.body.now) c.table-rows.ensures
+returns c = c.find_row.ensures ∙ ap (λ (rows : List InquiryRow). found row_has row_reads rows c.args.body.now) c.table-rows.ensures

@@ -13,5 +13,5 @@ returns c =
     let at = c.args.at in
     let bytes = c.args.bytes.now in
     let fits : at + length bytes ≤ length c.args.out.now = omega arith in
-    let whole = over_part at (at + length bytes - at) c.args.out.now c.copy-from-slice.new.self bytes (search rules) (omega arith) in
+    let whole = over_part at (at + length bytes - at) c.args.out.now c.copy_from_slice.new.self bytes (search rules) (omega arith) in
     record { next = rw le-leb refl; sent = rw le-leb whole }

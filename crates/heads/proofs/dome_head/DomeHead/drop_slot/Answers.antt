@@ -6,9 +6,9 @@ use Rattle.heads.proofs.dome_head.DomeHead.drop_slot.Goals as goal
 pub invariant_of-self : goal.invariant_of-self
 invariant_of-self c =
     let d = c.args.self.now in
-    let m' = means true c.drop-slot.new.self in
-    let (p, q) = unless_stalled d.stalled m' (λ e. drop_keeps (means true d.rig) m' c.args.slot (c.drop-slot.ensures true) (both_in d e)) in
-    (p, (q, tt))
+    let m' = means true c.drop_slot.new.self in
+    let (p, q) = unless_stalled d.stalled m' (λ e. drop_keeps (means true d.rig) m' c.args.slot (c.drop_slot.ensures true) (both_in d e)) in
+    record { first = p; second = q }
 
 pub returns : goal.returns
-returns c = record { dropped = c.drop-slot.ensures true; stalled = refl }
+returns c = record { dropped = c.drop_slot.ensures true; stalled = refl }

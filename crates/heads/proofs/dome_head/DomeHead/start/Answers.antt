@@ -11,4 +11,4 @@ invariant_of-self c =
     let (p, q) = unless_stalled d.stalled m' (λ e.
     start_keeps (means true d.rig) m' c.args.slot c.args.order (answered c.start.result) c.start.ensures.started
     (simp (c.motion-motion.ensures, e) at c.start.ensures.ticks) (both_in d e)) in
-    (p, (q, tt))
+    record { first = p; second = q }

@@ -12,7 +12,7 @@ invariant_of-self c =
     let r = c.tick.new.self in
     let ran : Ran (motion_of d.stalled) (means true d.rig) c.tick.result (means true r) = simp c.motion-motion.ensures at (c.tick.ensures true) in
     let (p, q) = unless_stalled d.stalled (means true r) (λ e. (dome_keeps d r c.tick.result ran e).0) in
-    (p, (q, tt))
+    record { first = p; second = q }
 
 pub returns : goal.returns
 returns c =

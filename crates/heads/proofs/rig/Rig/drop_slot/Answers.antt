@@ -3,4 +3,4 @@ use Rattle.heads.proofs.Apart.{apart_idle}
 use Rattle.heads.proofs.rig.Rig.drop_slot.Goals as goal
 
 pub invariant_of-self-in-2 : goal.invariant_of-self-in-2
-invariant_of-self-in-2 c = (apart_idle (slot_of c.args.self.now.one), tt)
+invariant_of-self-in-2 c = record { apart = apart_idle (slot_of c.args.self.now.one) }

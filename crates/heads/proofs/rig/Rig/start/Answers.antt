@@ -14,22 +14,23 @@ pub ticks-left-requires : goal.ticks-left-requires
 ticks-left-requires c = targets_in_range c.args.pan_tilt c.order.result c.order-2.result c.args.slot c.args.order c.in-Ok.ensures
 
 pub invariant_of-job : goal.invariant_of-job
-invariant_of-job c = (
-  targets_in_range c.args.pan_tilt c.order.result c.order-2.result c.args.slot c.args.order c.in-Ok.ensures,
-  (c.ticks-left.ensures.some, (c.ticks-left.ensures.few, tt)),
-)
+invariant_of-job c = record {
+  fits = targets_in_range c.args.pan_tilt c.order.result c.order-2.result c.args.slot c.args.order c.in-Ok.ensures;
+  some = c.ticks-left.ensures.some;
+  few = c.ticks-left.ensures.few;
+}
 
 pub invariant_of-self : goal.invariant_of-self
 invariant_of-self c =
     let h = not_in_use c.args.pan_tilt c.order.result c.order-2.result c.args.slot c.args.order c.in-Ok.ensures in
-    (apart_held (slot_of c.args.self.now.two) c.args.order c.ticks-left.result (simp (c.if-slot-eq1.true, c.order-2.ensures) at h), tt)
+    record { apart = apart_held (slot_of c.args.self.now.two) c.args.order c.ticks-left.result (simp (c.if-slot-eq1.true, c.order-2.ensures) at h) }
 
 pub invariant_of-self-else-slot-eq1 : goal.invariant_of-self-else-slot-eq1
 invariant_of-self-else-slot-eq1 c =
     let one = slot_of c.args.self.now.one in
     let h = not_in_use c.args.pan_tilt c.order.result c.order-2.result c.args.slot c.args.order c.in-Ok.ensures in
     let k = simp (ne_eqb c.args.slot 1 c.if-slot-eq1.false, c.order.ensures) at h in
-    (apart_sym (busy c.args.order c.ticks-left.result) one (apart_held one c.args.order c.ticks-left.result k), tt)
+    record { apart = apart_sym (busy c.args.order c.ticks-left.result) one (apart_held one c.args.order c.ticks-left.result k) }
 
 pub returns-else-slot-eq1 : goal.returns-else-slot-eq1
 returns-else-slot-eq1 c =

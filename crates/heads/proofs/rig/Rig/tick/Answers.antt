@@ -10,7 +10,7 @@ use Rattle.heads.proofs.rig.Rig.tick.Goals as goal
 pub invariant_of-self-3 : goal.invariant_of-self-3
 invariant_of-self-3 c =
     let r = c.args.self.now in
-    ((λ s. simp (c.rest-self.ensures, c.rest-self-2.ensures) (rest_apart (slot_of r.one) (slot_of r.two) r.apart s)), tt)
+    record { apart = λ s. simp (c.rest-self.ensures, c.rest-self-2.ensures) (rest_apart (slot_of r.one) (slot_of r.two) r.apart s) }
 
 pub returns : goal.returns
 returns c p =

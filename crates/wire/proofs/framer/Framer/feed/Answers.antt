@@ -19,7 +19,7 @@ invariant_of-self-in-Idle-128-to-254 c =
     let bs = c.args.self.now.bytes in
     let l : length bs ≡ 16 = search rules in
     let h : is_header c.args.byte ≡ true = and_from _ _ (le-leb 0x80 c.args.byte (omega arith)) (le-leb c.args.byte 0xfe (omega arith)) in
-    (omega arith, (rw (more bs 0 c.args.byte l (omega arith)) (and_from (is_header c.args.byte) true h refl), tt))
+    record { room = omega arith; kept = rw (more bs 0 c.args.byte l (omega arith)) (and_from (is_header c.args.byte) true h refl) }
 
 pub invariant_of-self-in-Begun-default : goal.invariant_of-self-in-Begun-default
 invariant_of-self-in-Begun-default c =
@@ -28,7 +28,7 @@ invariant_of-self-in-Begun-default c =
     let l : length bs ≡ 16 = search rules in
     let o : opens (take n bs) ≡ true = simp c.in-Begun-default.is-0 at c.args.self.now.kept in
     let e : eqb c.args.byte 0xff ≡ false = ne_eqb c.args.byte 0xff (omega arith) in
-    (omega arith, (simp (c.in-Begun-default.is-0, more bs n c.args.byte l c.args.self.now.room) (opens_more (take n bs) c.args.byte o e), tt))
+    record { room = omega arith; kept = simp (c.in-Begun-default.is-0, more bs n c.args.byte l c.args.self.now.room) (opens_more (take n bs) c.args.byte o e) }
 
 pub invariant_of-result : goal.invariant_of-result
 invariant_of-result c =
@@ -40,7 +40,7 @@ invariant_of-result c =
     let s = opens_some (take n bs) o in
     let u : n ≡ 1 → ⊥ = c.if-self-eq1.false in
     let w = subst (λ (b : ℕ). is_packet (take n bs ++ b ∷ []) ≡ true) (sym c.in-Begun-eq255.is-1) (whole (take n bs) o (omega arith) (omega arith)) in
-    (omega arith, (subst (λ (p : List ℕ). is_packet p ≡ true) (sym (more bs n c.args.byte l c.args.self.now.room)) w, tt))
+    record { most = omega arith; form = subst (λ (p : List ℕ). is_packet p ≡ true) (sym (more bs n c.args.byte l c.args.self.now.room)) w }
 
 pub returns-in-Idle-128-to-254 : goal.returns-in-Idle-128-to-254
 returns-in-Idle-128-to-254 c =
