@@ -2,7 +2,6 @@
 use Rattle.std.proofs.Common.{◌≡◌, ℕ, false, ◌&&◌, ℤ, is_some, Some, None, Option, refl}
 use Rattle.std.proofs.lemmas.Bool.{and_right}
 use Rattle.head.specs.declared.order.Order.{Order}
-use Rattle.head.specs.declared.setting.Setting.{Setting}
 use Rattle.head.specs.Orders.{parts, wants}
 use Rattle.head.specs.Meaning.{Slot, idle, busy, wanted, order_in, in_use}
 use Rattle.head.proofs.Wants.{apart}

@@ -1,16 +1,12 @@
 -- Where drives take positions.
-use Rattle.std.proofs.Common.{◌≡◌, true, ◌&&◌, ℤ, pos, negsuc, ◌+ℤ◌, ◌*ℤ◌, ◌≤ℤ◌, refl, arith}
+use Rattle.std.proofs.Common.{◌≡◌, true, ◌&&◌, ℤ, pos, negsuc, ◌≤ℤ◌, arith}
 use lib.Signed.{le_z}
-use Rattle.std.proofs.lemmas.Int.{ints, clamps}
-use Rattle.std.proofs.lemmas.Bool.{and_parts, and_from}
-use Rattle.std.specs.Int.{int_min, int_max}
+use Rattle.std.proofs.lemmas.Int.{ints}
+use Rattle.std.proofs.lemmas.Bool.{and_parts}
 use Rattle.head.specs.declared.setting.Axis.{Axis}
 use Rattle.head.specs.declared.setting.Axis.TheVariants.{Zoom, Focus, Pan, Tilt}
-use Rattle.head.specs.Settings.{in_range, position, drive}
-use Rattle.head.specs.Meaning.{Driven}
-use Rattle.heads.specs.Motion.{Gentle, driven}
-use Rattle.heads.specs.declared.motion.Motion.{Motion}
-use Rattle.heads.specs.declared.motion.Motion.TheVariants.{AtOnce, Stepwise, Stalled}
+use Rattle.head.specs.Settings.{in_range, drive}
+use Rattle.heads.specs.Motion.{Gentle}
 
 bounded : (low high d : ℤ) → negsuc 23 ≤ℤ low → high ≤ℤ pos 24 → (le_z low d && le_z d high) ≡ true → Gentle d
 bounded low high d l h e =

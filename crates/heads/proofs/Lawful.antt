@@ -1,8 +1,8 @@
 -- A tick of our heads is one of every head.
-use Rattle.std.proofs.Common.{◌≡◌, ℕ, ◌-◌, ◌<◌, ◌≤◌, Bool, true, false, cond, ◌&&◌, ltb, ◌⊎◌, ℤ, pos, negsuc, ◌+ℤ◌, ◌*ℤ◌, ◌≤ℤ◌, ◌<ℤ◌, is_some, Some, None, Option, sym, refl, ap, ◌∙◌, subst, inl, inr, ⊎_elim, arith}
-use lib.Signed.{le_z, lt_z}
+use Rattle.std.proofs.Common.{◌≡◌, ℕ, ◌-◌, Bool, true, false, cond, ◌&&◌, ltb, ℤ, pos, negsuc, ◌+ℤ◌, ◌*ℤ◌, ◌≤ℤ◌, ◌<ℤ◌, is_some, Some, None, Option, sym, refl, ap, ◌∙◌, subst, arith}
+use lib.Signed.{le_z}
 use Rattle.std.proofs.lemmas.Int.{ints, clamps}
-use Rattle.std.proofs.lemmas.Bool.{and_parts, cases_Bool, cond_both, ltb-true, ltb-false}
+use Rattle.std.proofs.lemmas.Bool.{and_parts, cond_both, ltb-true, ltb-false}
 use Rattle.std.specs.Int.{int_min, int_max}
 use Rattle.head.specs.declared.order.Order.{Order}
 use Rattle.head.specs.declared.outcome.Ending.{Ending}
@@ -20,7 +20,7 @@ use Rattle.heads.specs.declared.motion.Motion.{Motion}
 use Rattle.heads.specs.declared.motion.Motion.TheVariants.{AtOnce, Stepwise, Stalled}
 use Rattle.heads.specs.Motion.{moved, driven, unit, held}
 use Rattle.heads.specs.Exact.{is_at, there, arrived, told, rest, pulled_to, pulled, unnamed, or_else, next, Ran}
-use Rattle.heads.specs.Rigs.{arrives, all_arrive, foretold}
+use Rattle.heads.specs.Rigs.{arrives, foretold}
 use Rattle.heads.proofs.Moves.{moved_between}
 
 -- Drives.

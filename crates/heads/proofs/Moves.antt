@@ -1,20 +1,18 @@
 -- Where a tick of our heads takes a setting: in range, and as every head's tick may.
-use Rattle.std.proofs.Common.{◌≡◌, ℕ, ◌≤◌, Bool, true, false, cond, ◌&&◌, ◌⊎◌, ℤ, pos, negsuc, ◌+ℤ◌, ◌-ℤ◌, ◌*ℤ◌, ◌≤ℤ◌, Some, None, Option, sym, refl, ap, ◌∙◌, subst, inl, inr, ⊎_elim, arith}
+use Rattle.std.proofs.Common.{◌≡◌, ℕ, true, ◌&&◌, ℤ, pos, negsuc, ◌+ℤ◌, ◌*ℤ◌, ◌≤ℤ◌, Some, None, Option, sym, refl, subst, inl, inr, arith}
 use lib.Signed.{le_z, lt_z}
 use Rattle.std.proofs.lemmas.Int.{ints, clamps}
-use Rattle.std.proofs.lemmas.Bool.{and_parts, and_from, cases_Bool, cond_both}
+use Rattle.std.proofs.lemmas.Bool.{and_from, cases_Bool, cond_both}
 use Rattle.std.specs.Int.{int_min, int_max}
-use Rattle.head.specs.declared.order.Order.{Order}
 use Rattle.head.specs.declared.order.Paces.{Paces}
 use Rattle.head.specs.declared.outcome.Ending.{Ending}
-use Rattle.head.specs.declared.outcome.Ending.TheVariants.{Done, Jammed}
 use Rattle.head.specs.declared.outcome.Endings.{Endings}
 use Rattle.head.specs.declared.setting.Axis.{Axis}
 use Rattle.head.specs.declared.setting.Axis.TheVariants.{Zoom, Focus, Pan, Tilt}
 use Rattle.head.specs.declared.setting.Setting.{Setting}
 use Rattle.head.specs.Settings.{about, in_range, position, drive}
-use Rattle.head.specs.Orders.{parts, wants, all_in_range}
-use Rattle.head.specs.Meaning.{Between, Driven, Slot, idle, busy, Slots}
+use Rattle.head.specs.Orders.{parts, wants}
+use Rattle.head.specs.Meaning.{Between}
 use Rattle.head.proofs.Bounds.{between_in_range}
 use Rattle.head.proofs.Tables.{position_is}
 use Rattle.head.proofs.Wants.{wants_in_range}

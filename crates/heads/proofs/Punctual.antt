@@ -1,11 +1,10 @@
 -- A dome that is not stalled keeps its orders in time.
-use Rattle.std.proofs.Common.{◌≡◌, ℕ, ◌+◌, ◌-◌, ◌*◌, ◌/◌, ◌%◌, ◌<◌, ◌≤◌, min, max, Bool, true, false, cond, ◌&&◌, ◌||◌, eqb, ltb, leb, ℤ, ◌-ℤ◌, nat_abs, Some, None, Option, sym, refl, ap, ◌∙◌, subst, ⊎_elim, le-add_right, mul-le-mul_right, mod-lt, add-mul, one-mul, arith}
+use Rattle.std.proofs.Common.{◌≡◌, ℕ, ◌+◌, ◌-◌, ◌*◌, ◌/◌, ◌%◌, ◌<◌, ◌≤◌, min, Bool, true, false, ◌&&◌, ◌||◌, eqb, ltb, ℤ, ◌-ℤ◌, nat_abs, Some, None, Option, sym, refl, ap, ◌∙◌, ⊎_elim, le-add_right, mul-le-mul_right, mod-lt, add-mul, one-mul, arith}
 use lib.Signed.{le_z}
 use Rattle.std.proofs.lemmas.Nat.{div-add-mod'}
 use Rattle.std.proofs.lemmas.Int.{ints, clamps}
-use Rattle.std.proofs.lemmas.Bool.{and_parts, and_from, leb-true, le-leb, ltb-true, ltb-false, cases_eq, cond_both}
+use Rattle.std.proofs.lemmas.Bool.{and_parts, and_from, leb-true, le-leb, ltb-false, cases_eq, cond_both}
 use Rattle.head.specs.declared.order.Order.{Order}
-use Rattle.head.specs.declared.outcome.Ending.TheVariants.{Done, Jammed}
 use Rattle.head.specs.declared.outcome.Endings.{Endings}
 use Rattle.head.specs.declared.setting.Axis.{Axis}
 use Rattle.head.specs.declared.setting.Axis.TheVariants.{Zoom, Focus, Pan, Tilt}
@@ -23,7 +22,7 @@ use Rattle.heads.proofs.Rigs.{job_timed}
 use Rattle.heads.specs.declared.motion.Motion.TheVariants.{Stepwise}
 use Rattle.heads.proofs.Lawful.{Moved, Apart, moved_one, moved_two}
 use Rattle.heads.proofs.Spans.{moves}
-use Rattle.heads.specs.Punctual.{within_reach, in_time, punctual, is_jammed}
+use Rattle.heads.specs.Punctual.{in_time, punctual, is_jammed}
 
 -- a fact of each axis, and the four together
 abbrev Each : (Axis → Bool) → Type 0

@@ -1,5 +1,5 @@
 -- A rig's tick is one of every head.
-use Rattle.std.proofs.Common.{◌≡◌, Bool, Some, None, Option}
+use Rattle.std.proofs.Common.{Bool, Some, None, Option}
 use Rattle.head.specs.declared.outcome.Endings.{Endings}
 use Rattle.head.specs.Meaning.{Timed, Ticked}
 use Rattle.head.proofs.Relax.{lawful}

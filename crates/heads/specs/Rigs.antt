@@ -1,5 +1,5 @@
 -- A rig as what a head means, and what its code finds before it moves anything.
-use Rattle.std.specs.Prelude.{Bool, true, false, cond, ◌&&◌, ℤ, Some, None, Option, nat_lt}
+use Rattle.std.specs.Prelude.{Bool, true, cond, ◌&&◌, ℤ, Some, None, Option, nat_lt}
 use Rattle.head.specs.declared.order.Order.{Order}
 use Rattle.head.specs.declared.outcome.Ending.{Ending}
 use Rattle.head.specs.declared.outcome.Ending.TheVariants.{Done, Jammed}

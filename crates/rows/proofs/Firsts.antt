@@ -1,9 +1,9 @@
 -- The first element that passes, from what is known of each place.
-use Rattle.std.proofs.Common.{◌≡◌, ℕ, zero, suc, ◌-◌, ◌<◌, ◌≤◌, Bool, true, false, ◌||◌, List, [], ◌∷◌, length, get_or, take, drop, Some, None, Option, Result, sym, refl, ap, ◌∙◌, arith}
+use Rattle.std.proofs.Common.{◌≡◌, ℕ, zero, suc, ◌-◌, ◌<◌, ◌≤◌, Bool, true, false, List, [], ◌∷◌, length, get_or, take, drop, Some, None, Option, Result, sym, refl, ap, ◌∙◌, arith}
 use Rattle.std.proofs.lemmas.List.{take_all, get_or_read}
 use Rattle.std.proofs.lemmas.Bool.{or_left, or_right}
 use Rattle.rows.specs.declared.fault.RowFault.{RowFault}
-use Rattle.rows.specs.Search.{meaning, first_or, first_of, any_of, found_or, found}
+use Rattle.rows.specs.Search.{meaning, first_of, any_of, found_or, found}
 
 pub first_found : {X M : Type 0} (f : X → Option M) (xs : List X) (i : ℕ) (m : M) → i < length xs → ((d : X) → f (get_or xs i d) ≡ Some m)
     → ((k : ℕ) (d : X) → k < i → f (get_or xs k d) ≡ None) → Some (i, m) ≡ first_of f xs

@@ -1,5 +1,5 @@
 -- No two command rows admit one packet.
-use Rattle.std.proofs.Common.{◌≡◌, ℕ, zero, suc, ◌<◌, Bool, true, false, cond, not, ◌&&◌, ◌||◌, eqb, ◌⊎◌, List, [], ◌∷◌, length, get_or, is_some, Some, None, Option, sym, refl, ap, ◌∙◌, subst, inl, inr, ⊎_elim, arith}
+use Rattle.std.proofs.Common.{◌≡◌, ℕ, zero, suc, ◌<◌, Bool, true, false, not, ◌&&◌, ◌||◌, eqb, ◌⊎◌, List, [], ◌∷◌, length, get_or, is_some, Some, None, Option, sym, refl, ap, ◌∙◌, subst, inl, inr, ⊎_elim, arith}
 use Rattle.std.proofs.lemmas.Bool.{and_parts, and_from, or_left, or_right, or_cases, eqb-true, eq-eqb, cases_Bool, not_from_true, both_ways}
 use Rattle.head.specs.declared.order.Order.{Order}
 use Rattle.head.specs.declared.setting.Setting.{Setting}
@@ -11,7 +11,7 @@ use Rattle.rows.specs.declared.operands.Operands.{Operands}
 use Rattle.rows.specs.declared.operands.Operands.TheVariants.{Digit, Drive, Position, PositionAtSpeed, Level, Number, PanTiltDrive, PanTilt, Home}
 use Rattle.rows.specs.Codes.{pairs, coded, setting_of}
 use Rattle.rows.specs.Commands.{row_has, row_reads, commands, read_command}
-use Rattle.rows.specs.OneRow.{row_at, admitted_by, ReadByOne, ByOneRow}
+use Rattle.rows.specs.OneRow.{row_at, admitted_by, ByOneRow}
 use Rattle.rows.specs.Reading.{bind, none_of, one_of, four_of, five_of, ten_of, reads}
 use Rattle.rows.specs.Search.{meaning, first_or, first_of, any_of, found_or}
 

@@ -1,5 +1,5 @@
 -- Whatever the command rows make of a packet has every target in range.
-use Rattle.std.proofs.Common.{◌≡◌, ℕ, Bool, true, false, cond, eqb, List, [], ◌∷◌, Some, None, Ok, Err, Option, Result, sym, refl, ap, ◌∙◌, subst, arith}
+use Rattle.std.proofs.Common.{◌≡◌, ℕ, Bool, true, false, cond, eqb, List, [], ◌∷◌, Some, None, Ok, Err, Option, Result, refl, ap, ◌∙◌, subst, arith}
 use Rattle.head.specs.declared.order.Order.{Order}
 use Rattle.head.specs.declared.order.Paces.{Paces}
 use Rattle.head.specs.declared.setting.Setting.{Setting}
@@ -20,7 +20,7 @@ use Rattle.rows.specs.Commands.{row_has, row_reads, read_command}
 use Rattle.rows.specs.Digits.{word}
 use Rattle.rows.specs.Inquiries.{read_inquiry}
 use Rattle.rows.specs.OneRow.{row_at, admitted_by, ByOneRow}
-use Rattle.rows.specs.Reading.{bind, none_of, one_of, four_of, five_of, ten_of, ranged, digit, pushed, turned, driven, placed, placed_at, level, number, paced, steered, pan_tilt_driven, pan_tilt, pan_tilt_placed, home, reads}
+use Rattle.rows.specs.Reading.{bind, none_of, one_of, four_of, five_of, ten_of, ranged, digit, pushed, driven, placed, placed_at, level, number, paced, steered, pan_tilt_driven, pan_tilt_placed, home, reads}
 use Rattle.rows.specs.Requests.{as_command, as_inquiry, read_body}
 use Rattle.rows.specs.Search.{meaning}
 use Rattle.rows.proofs.OneRow.{read_by_one_row}

@@ -1,5 +1,5 @@
 -- The row search: the first row that admits a body; and if none does, whether some row has its category and code.
-use Rattle.std.specs.Prelude.{ℕ, suc, Bool, true, false, cond, ◌||◌, List, [], ◌∷◌, Some, None, Ok, Err, Option, Result}
+use Rattle.std.specs.Prelude.{ℕ, suc, Bool, false, cond, ◌||◌, List, [], ◌∷◌, Some, None, Ok, Err, Option, Result}
 use Rattle.rows.specs.declared.fault.RowFault.{RowFault}
 use Rattle.rows.specs.declared.fault.RowFault.TheVariants.{NoSuchCode, NoSuchOperands}
 use Rattle.wire.specs.declared.fault.FaultCode.{FaultCode}

@@ -1,5 +1,5 @@
 -- Packets tried, byte by byte, and what they are. One statement says that the written rules make just that of each.
-use Rattle.std.specs.Prelude.{◌≡◌, ℕ, List, [], ◌∷◌, map, ℤ, pos, neg_ℤ, Some, None, Ok, Err, Result}
+use Rattle.std.specs.Prelude.{◌≡◌, ℕ, List, [], ◌∷◌, ℤ, pos, neg_ℤ, Some, None, Ok, Err, Result}
 use Rattle.head.specs.declared.setting.Setting.{Setting}
 use Rattle.head.specs.declared.setting.Setting.TheVariants.{Zoom, ZoomDrive, Pan, Tilt, PanDrive, TiltDrive}
 use Rattle.head.specs.declared.target.Target.{Target}

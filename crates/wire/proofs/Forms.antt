@@ -1,6 +1,6 @@
 -- What is known of the bytes of a packet, begun or whole.
-use Rattle.std.proofs.Common.{◌≡◌, ℕ, ◌+◌, ◌≤◌, Bool, true, false, not, ◌&&◌, eqb, leb, List, [], ◌∷◌, ◌++◌, length, sym, refl, ap, ◌∙◌, arith, length-append}
-use Rattle.std.proofs.lemmas.Bool.{and_parts, and_from, leb-true, le-leb, not_from_false, not-true}
+use Rattle.std.proofs.Common.{◌≡◌, ℕ, ◌+◌, ◌≤◌, true, false, not, ◌&&◌, eqb, leb, List, [], ◌∷◌, ◌++◌, length, refl, arith, length-append}
+use Rattle.std.proofs.lemmas.Bool.{and_parts, and_from, leb-true, le-leb, not_from_false}
 use Rattle.wire.specs.Packets.{is_header, no_end, opens, closes, is_packet}
 
 no_end_more : (bs : List ℕ) (b : ℕ) → no_end bs ≡ true → eqb b 0xff ≡ false → no_end (bs ++ b ∷ []) ≡ true

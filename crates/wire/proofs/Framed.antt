@@ -1,8 +1,8 @@
 -- Every packet is framed, and every FF finds the line again.
-use Rattle.std.proofs.Common.{◌≡◌, ℕ, ◌+◌, ◌≤◌, Bool, true, false, not, ◌&&◌, eqb, leb, List, [], ◌∷◌, ◌++◌, length, Some, None, Ok, refl, ap, ◌∙◌, append_assoc, arith, length-append}
+use Rattle.std.proofs.Common.{◌≡◌, ℕ, ◌+◌, ◌≤◌, true, false, not, ◌&&◌, eqb, leb, List, [], ◌∷◌, ◌++◌, length, None, Ok, refl, ap, ◌∙◌, append_assoc, arith, length-append}
 use Rattle.std.proofs.lemmas.Bool.{and_parts, leb-true, not-true, ne_eqb}
-use Rattle.wire.specs.Framing.{Held, none, begun, skipping, next, Event, event}
-use Rattle.wire.specs.Packets.{is_header, closes, is_packet}
+use Rattle.wire.specs.Framing.{Held, none, begun, skipping, next, Event}
+use Rattle.wire.specs.Packets.{is_header, closes}
 use Rattle.wire.proofs.Forms.{packet_some}
 use Rattle.wire.specs.Theorems.{after, events, at_last, EveryPacketIsFramed, TheLineIsFoundAgain}
 

@@ -1,5 +1,5 @@
 -- Framing: what each byte makes of what stands before it.
-use Rattle.std.specs.Prelude.{ℕ, Bool, cond, ◌&&◌, List, [], ◌∷◌, ◌++◌, length, take, Some, None, Ok, Err, Option, Result, ◌==◌}
+use Rattle.std.specs.Prelude.{ℕ, cond, List, [], ◌∷◌, ◌++◌, length, take, Some, None, Ok, Err, Option, Result, ◌==◌}
 use Rattle.wire.specs.declared.fault.FaultCode.{FaultCode}
 use Rattle.wire.specs.declared.framer.Framer.{Framer}
 use Rattle.wire.specs.declared.framer.FramingFault.{FramingFault}

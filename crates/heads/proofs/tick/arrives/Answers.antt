@@ -1,4 +1,4 @@
-use Rattle.std.proofs.Common.{◌≡◌, ℤ, sym, ap, ◌∙◌, subst, arith}
+use Rattle.std.proofs.Common.{ℤ, sym, ap, ◌∙◌, subst, arith}
 use Rattle.std.proofs.lemmas.Int.{ints}
 use Rattle.head.specs.Settings.{Small, position}
 use Rattle.head.specs.Values.{value_of}

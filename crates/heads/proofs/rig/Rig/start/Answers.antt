@@ -1,10 +1,8 @@
-use Rattle.std.proofs.Common.{◌≡◌, ℕ, sym, refl, ap, ◌∙◌, subst, ⊎_elim}
+use Rattle.std.proofs.Common.{◌≡◌, ℕ, ap, ◌∙◌, ⊎_elim}
 use Rattle.std.proofs.lemmas.Bool.{ne_eqb}
-use Rattle.head.specs.declared.order.Order.{Order}
 use Rattle.head.specs.Meaning.{Slots, busy, put, refusal}
-use Rattle.head.specs.Values.{value_of}
 use Rattle.head.proofs.Starts.{slot_one_or_two, targets_in_range, not_in_use, takes}
-use Rattle.heads.specs.Exact.{slot_of, ticks_of}
+use Rattle.heads.specs.Exact.{slot_of}
 use Rattle.heads.specs.Rigs.{means, slots_of}
 use Rattle.heads.proofs.Apart.{apart_held}
 use Rattle.heads.proofs.Lawful.{apart_sym}

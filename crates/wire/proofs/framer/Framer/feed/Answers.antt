@@ -1,9 +1,7 @@
-use Rattle.std.proofs.Common.{◌≡◌, ℕ, ◌+◌, ◌<◌, ◌≤◌, Bool, true, false, cond, eqb, List, [], ◌∷◌, ◌++◌, length, take, set, sym, refl, ap, ◌∙◌, subst, arith, rules}
+use Rattle.std.proofs.Common.{◌≡◌, ℕ, ◌+◌, ◌<◌, ◌≤◌, true, false, eqb, List, [], ◌∷◌, ◌++◌, length, take, set, sym, refl, ◌∙◌, subst, arith, rules}
 use Rattle.std.proofs.lemmas.List.{take_more_set, length-take}
 use Rattle.std.proofs.lemmas.Bool.{and_from, le-leb, ne_eqb, eq-eqb}
 use Rattle.wire.specs.Packets.{is_header, opens, is_packet}
-use Rattle.wire.specs.declared.framer.Framer.{Framer}
-use Rattle.wire.specs.declared.framer.State.TheVariants.{Begun}
 use Rattle.wire.proofs.Forms.{opens_more, opens_some, whole}
 use Rattle.wire.proofs.framer.Framer.feed.Goals as goal
 
