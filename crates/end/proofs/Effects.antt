@@ -1,6 +1,7 @@
 -- What each outcome of a whole packet leaves of the tie between book, end and head.
-use Rattle.std.proofs.Common.{◌≡◌, ℕ, ◌+◌, ◌*◌, ◌/◌, ◌%◌, ◌<◌, ◌≤◌, Bool, true, false, cond, not, ◌&&◌, ◌||◌, eqb, ltb, List, [], ◌∷◌, ◌++◌, ℤ, Some, None, Ok, Err, Option, Result, sym, refl, ap, ◌∙◌, subst, arith}
+use Rattle.std.proofs.Common.{◌≡◌, ℕ, pos, negsuc, ◌+◌, ◌*◌, ◌/◌, ◌%◌, ◌<◌, ◌≤◌, Bool, true, false, cond, not, ◌&&◌, ◌||◌, eqb, ltb, List, [], ◌∷◌, ◌++◌, ℤ, Some, None, Ok, Err, Option, Result, sym, refl, ap, ◌∙◌, subst, arith}
 use Rattle.std.proofs.lemmas.Bool.{eqb-true, ne_eqb, or_parts}
+use Rattle.std.proofs.lemmas.Int.{ints}
 use Rattle.end.specs.declared.socket.Socket.{Socket}
 use Rattle.end.specs.declared.socket.Socket.TheVariants.{Closed, Open}
 use Rattle.end.specs.declared.socket.Sockets.{Sockets}
@@ -19,6 +20,7 @@ use Rattle.head.specs.declared.setting.Setting.{Setting}
 use Rattle.head.specs.declared.setting.Setting.TheVariants.{Pan, Tilt}
 use Rattle.head.specs.Meaning.{Meaning, Slot, Slots, idle, busy, order_in, reason, refusal, in_use, Holds, Started, Dropped}
 use Rattle.head.specs.Orders.{parts, all_in_range, any_pan_tilt}
+use Rattle.head.specs.Settings.{Small}
 use Rattle.rows.specs.declared.fault.PacketFault.{PacketFault}
 use Rattle.rows.specs.declared.inquiries.Form.{Form}
 use Rattle.rows.specs.declared.inquiries.Form.TheVariants.{Digit, Level, Number, PanTilt}
@@ -66,8 +68,17 @@ both_false false = refl
 digit : (n : ℕ) → eqb (n % 16) 0xff ≡ false
 digit n = ne_eqb (n % 16) 0xff (λ e. omega arith)
 
-digits_plain : (n : ℕ) (rest : List ℕ) → Plain rest → Plain (digits n ++ rest)
-digits_plain n rest h = (digit (n / 4096), (digit (n / 256), (digit (n / 16), (digit n, h))))
+first_digit : (n : ℕ) → n ≤ 65535 → eqb (n / 4096) 0xff ≡ false
+first_digit n few = ne_eqb (n / 4096) 0xff (λ e. omega arith)
+
+few_bits : (v : ℤ) → Small v → bits v ≤ 65535
+few_bits (pos n) h = let few = h.high in omega (arith, ints)
+few_bits (negsuc n) h = omega arith
+
+digits_plain : (v : ℤ) (rest : List ℕ) → Small v → Plain rest → Plain (digits (bits v) ++ rest)
+digits_plain v rest small h =
+    let n = bits v in
+    (first_digit n (few_bits v small), (digit (n / 256), (digit (n / 16), (digit n, h))))
 
 module _ (f : Setting → ℤ) (pt : Bool) (a : ℕ) (p sent : List ℕ) (s' : State) (low : a ≤ 7) where
   abbrev head_of : Slot → Slot → Meaning
@@ -241,19 +252,19 @@ module _ (f : Setting → ℤ) (pt : Bool) (a : ℕ) (p sent : List ℕ) (s' : S
         replied (Error y NoSocket) refl (no_socket_said 1 y) (no_socket_said 2 y) t₁ t₂ (subst (λ (o : Outcome). Done o x₁ x₂ c₁ c₂) r d)
 
     -- an inquiry
-    pan_tilt_plain : (b : Bool) → Plain (inquiry.told PanTilt f Pan b)
-    pan_tilt_plain true = (refl, digits_plain (bits (f Pan)) (digits (bits (f Tilt))) (digits_plain (bits (f Tilt)) [] tt))
-    pan_tilt_plain false = (refl, (refl, tt))
+    pan_tilt_plain : ((t : Setting) → Small (f t)) → (b : Bool) → Plain (inquiry.told PanTilt f Pan b)
+    pan_tilt_plain small true = (refl, digits_plain (f Pan) (digits (bits (f Tilt))) (small Pan) (digits_plain (f Tilt) [] (small Tilt) tt))
+    pan_tilt_plain small false = (refl, (refl, tt))
 
     pan_tilt_other : (b : Bool) → (behind 1 (inquiry.told PanTilt f Pan b ++ 0xff ∷ []) ≡ nothing_said) × (behind 2 (inquiry.told PanTilt f Pan b ++ 0xff ∷ []) ≡ nothing_said)
     pan_tilt_other true = (refl, refl)
     pan_tilt_other false = (refl, refl)
 
-    told_plain : (form : Form) (q : Setting) → Plain (inquiry.told form f q pt)
-    told_plain Digit q = (refl, (digit (bits (f q)), tt))
-    told_plain Level q = (refl, (refl, (refl, (digit (bits (f q) / 16), (digit (bits (f q)), tt)))))
-    told_plain Number q = (refl, digits_plain (bits (f q)) [] tt)
-    told_plain PanTilt q = pan_tilt_plain pt
+    told_plain : ((t : Setting) → Small (f t)) → (form : Form) (q : Setting) → Plain (inquiry.told form f q pt)
+    told_plain small Digit q = (refl, (digit (bits (f q)), tt))
+    told_plain small Level q = (refl, (refl, (refl, (digit (bits (f q) / 16), (digit (bits (f q)), tt)))))
+    told_plain small Number q = (refl, digits_plain (f q) [] (small q) tt)
+    told_plain small PanTilt q = pan_tilt_plain small pt
 
     told_other : (form : Form) (q : Setting) → (behind 1 (inquiry.told form f q pt ++ 0xff ∷ []) ≡ nothing_said) × (behind 2 (inquiry.told form f q pt ++ 0xff ∷ []) ≡ nothing_said)
     told_other Digit q = (refl, refl)
@@ -261,19 +272,19 @@ module _ (f : Setting → ℤ) (pt : Bool) (a : ℕ) (p sent : List ℕ) (s' : S
     told_other Number q = (refl, refl)
     told_other PanTilt q = pan_tilt_other pt
 
-    inquire : {l₁ l₂ : Seen} {x₁ x₂ : Socket} {c₁ c₂ : Slot} (q : Inquiry) → Tied l₁ x₁ c₁ → Tied l₂ x₂ c₂ →
+    inquire : {l₁ l₂ : Seen} {x₁ x₂ : Socket} {c₁ c₂ : Slot} (q : Inquiry) → ((t : Setting) → Small (f t)) → Tied l₁ x₁ c₁ → Tied l₂ x₂ c₂ →
         Done (sends a (inquiry.answered (own_header a) q f pt)) x₁ x₂ c₁ c₂ → After a p l₁ l₂ sent f s'
-    inquire {l₁} {l₂} q t₁ t₂ d =
+    inquire {l₁} {l₂} q small t₁ t₂ d =
         let t = inquiry.told q.form f q.setting pt in
-        let plain = told_plain q.form q.setting in
+        let plain = told_plain small q.form q.setting in
         quiet (own_header a ∷ (t ++ 0xff ∷ []))
         (read_own_other a 1 p t l₁ low has plain (told_other q.form q.setting).0)
         (read_own_other a 2 p t l₂ low has plain (told_other q.form q.setting).1) t₁ t₂ d
 
     -- any other body
-    pub request : {l₁ l₂ : Seen} {x₁ x₂ : Socket} {c₁ c₂ : Slot} (r : Result Request PacketFault) → read_body (body_of p) ≡ r → Tied l₁ x₁ c₁ → Tied l₂ x₂ c₂ →
+    pub request : {l₁ l₂ : Seen} {x₁ x₂ : Socket} {c₁ c₂ : Slot} (r : Result Request PacketFault) → read_body (body_of p) ≡ r → ((t : Setting) → Small (f t)) → Tied l₁ x₁ c₁ → Tied l₂ x₂ c₂ →
         Done (requested a (head_of c₁ c₂) (both x₁ x₂) r) x₁ x₂ c₁ c₂ → After a p l₁ l₂ sent f s'
-    request {x₁ = x₁} {x₂ = x₂} (Ok (Command row o)) e t₁ t₂ d =
+    request {x₁ = x₁} {x₂ = x₂} (Ok (Command row o)) e small t₁ t₂ d =
         command (forbidden_by f pt (powering_in (both x₁ x₂)) o) o (ap ordered e) (body_in_range (body_of p) row o e) refl t₁ t₂ d
-    request (Ok (Ask q)) e t₁ t₂ d = inquire q t₁ t₂ d
-    request (Err f) e t₁ t₂ d = replied (Error 0 Syntax) refl refl refl t₁ t₂ (record { packets = d.packets; head = d.head; sockets = d.sockets })
+    request (Ok (Ask q)) e small t₁ t₂ d = inquire q small t₁ t₂ d
+    request (Err f) e small t₁ t₂ d = replied (Error 0 Syntax) refl refl refl t₁ t₂ (record { packets = d.packets; head = d.head; sockets = d.sockets })

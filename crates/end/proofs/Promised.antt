@@ -17,7 +17,7 @@ use Rattle.end.specs.Sockets.{is_open, socket_at, with_socket}
 use Rattle.end.specs.States.{State}
 use Rattle.end.specs.Steps.{Came}
 use Rattle.end.proofs.Heard.{Stands, nowhere, within, passing}
-use Rattle.end.proofs.Runs.{Inv, awake, kept, call_law}
+use Rattle.end.proofs.Runs.{Inv, awake, in_range_in, kept, goes, call_law}
 use Rattle.end.proofs.Tied.{Tied, rests, works, tied_open, tied_in_time}
 use Rattle.head.specs.Meaning.{Meaning, Slot}
 use Rattle.rules.specs.declared.reply.Problem.TheVariants.{Cancelled as CancelledCommand, NoSocket}
@@ -108,7 +108,7 @@ module _ (k : Book) (y : ℕ) (number : Number y) (p : List ℕ) (n : ℕ) (at :
 module _ (m : Meaning) (h : List Entry) (y : ℕ) (number : Number y) (p : List ℕ) (n : ℕ) (at : seen_at (book_of h) y ≡ working p n) where
   open_until : (later : List Entry) {s : State} → Run m (later ++ h) s → OverIn y h later ⊎ (seen_at (book_of (later ++ h)) y ≡ working p (n + ticks_in later))
   open_until [] r = inr (at ∙ ap (λ (z : ℕ). working p z) (sym (add-zero n)))
-  open_until (e ∷ later) (law.Run.then {s = s} {s' = s'} _ a r d) = elim (open_until later r) [
+  open_until (e ∷ later) (law.Run.then {s = s} {s' = s'} _ a r d _) = elim (open_until later r) [
     | inl f ↦ inl (inr f)
     | inr g ↦ elim (over_call (book_of (later ++ h)) y number p (n + ticks_in later) g s e a s' (accepted e.call e.room) refl (call_law e a s' r d)) [
       | inl f ↦ inl (inl f)
@@ -188,7 +188,7 @@ a_cancel_is_never_refused m h s r y number p n at st room a sent s' big d =
     let c₄ : U (Cancelled y) = subst U (cancel_rule z i.low has number) c₃ in
     let V : Bool → Type 0 = λ t. Came s none (cond t (does z (cancels y) (own z (Error y CancelledCommand))) (sends z (own z (Error y NoSocket)))) a sent s' in
     let c : V true = subst V (open_at number k s p n i at) c₄ in
-    let after = kept (law.Run.then (entry (Byte 0xff) room sent) a r d) in
+    let after = (goes k s (Byte 0xff) room a sent s' (in_range_in r) i d).inv in
     record {
       answer = c.answer ∙ ap (λ (q : List ℕ). counts (length q)) (reply_length number z);
       ending = c.packets ∙ reply_length number z;

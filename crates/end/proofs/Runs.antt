@@ -12,7 +12,7 @@ use Rattle.end.specs.Faults.{Answer, opens}
 use Rattle.end.specs.Law.{Run, Lawful, Law, Agreement, InOrder, InTime, MayChange, open_by, entry, Keeps, Played, room_for, SocketsAgreeInEveryRun}
 use Rattle.end.specs.Law as law
 use Rattle.end.specs.Outcomes.{Outcome, own_header, sends, fails, framed, met, ended, requested as asked-for}
-use Rattle.end.specs.States.{State}
+use Rattle.end.specs.States.{State, InRange}
 use Rattle.end.specs.Steps.{Came, Made, Step, Told}
 use Rattle.end.proofs.Effects as effects
 use Rattle.end.proofs.Heard.{Stands, nowhere, Heard, nothing, faulty, packet, heard, Whole}
@@ -21,6 +21,8 @@ use Rattle.end.proofs.Ticking.{after_tick, changed}
 use Rattle.end.proofs.Tied.{Tied, rests, tied, tied_open, tied_holds, tied_in_time, After}
 use Rattle.head.specs.declared.setting.Setting.{Setting}
 use Rattle.head.specs.Meaning.{Meaning, Slots}
+use Rattle.head.specs.Settings.{Small}
+use Rattle.head.proofs.Bounds.{small as small_of}
 use Rattle.rows.specs.declared.fault.PacketFault.{PacketFault}
 use Rattle.rows.specs.declared.request.Request.{Request}
 use Rattle.rows.specs.declared.request.Request.TheVariants.{Command, Ask}
@@ -83,7 +85,7 @@ pub record Packeted (a' : ℕ) (o : Outcome) (p : List ℕ) (l₁ l₂ : Seen) (
   pub low : a' ≤ 7
   pub after : After a' p l₁ l₂ sent f s'
 
-module _ (s : State) (p sent : List ℕ) (s' : State) (low : s.address ≤ 7) (l₁ l₂ : Seen)
+module _ (s : State) (p sent : List ℕ) (s' : State) (small : (t : Setting) → Small (s.head.setting t)) (low : s.address ≤ 7) (l₁ l₂ : Seen)
     (t₁ : Tied l₁ s.sockets.one s.head.slots.one) (t₂ : Tied l₂ s.sockets.two s.head.slots.two) where
   abbrev a : ℕ
   a = s.address
@@ -118,7 +120,7 @@ module _ (s : State) (p sent : List ℕ) (s' : State) (low : s.address ≤ 7) (l
   met_packet w (requested has) d = record {
     then = requested_address a s.head s.sockets (read_body (body_of p));
     low = low;
-    after = effects.request s.head.setting s.head.pantilt a p sent s' low has (read_body (body_of p)) refl t₁ t₂ d;
+    after = effects.request s.head.setting s.head.pantilt a p sent s' low has (read_body (body_of p)) refl small t₁ t₂ d;
   }
 
 -- A byte, by what the book and the end make of it.
@@ -162,7 +164,7 @@ shut_closed : (b : Bool) (l : Seen) → l ≡ closed → shut_if b l ≡ closed
 shut_closed true l e = refl
 shut_closed false l e = e
 
-module _ (k : Book) (s : State) (a : Answer) (sent : List ℕ) (s' : State) (i : Inv k s) where
+module _ (k : Book) (s : State) (a : Answer) (sent : List ℕ) (s' : State) (v : InRange s) (i : Inv k s) where
   abbrev as_at : ℕ → Book
   as_at n = record { address = n; standing = k.standing; last = k.last; one = k.one; two = k.two }
 
@@ -178,7 +180,7 @@ module _ (k : Book) (s : State) (a : Answer) (sent : List ℕ) (s' : State) (i :
   whole_heard {p} w c =
       let low : s.address ≤ 7 = subst (λ (n : ℕ). n ≤ 7) (sym i.address) i.low in
       let r = ruled s.address low w in
-      let m = met_packet s p sent s' low k.one k.two i.one i.two w r (record { packets = c.packets; head = c.head; sockets = c.sockets }) in
+      let m = met_packet s p sent s' (λ t. small_of t (s.head.setting t) (v.each t)) low k.one k.two i.one i.two w r (record { packets = c.packets; head = c.head; sockets = c.sockets }) in
       noted (receives (as_at s.address) between (Some p)) s.head.setting sent s' (c.address ∙ m.then) m.low (stands_as s'.held c.held nowhere)
       (λ z. let q = i.asleep (sym i.address ∙ ruled_asleep r z) in (shut_closed (clearing s.address p) k.one q.0, shut_closed (clearing s.address p) k.two q.1))
       m.after
@@ -228,9 +230,9 @@ refused k s e a s' never w i c = record {
   answer = λ o. absurd (never o);
 }
 
-byte_goes : (k : Book) (s : State) (b n : ℕ) (a : Answer) (sent : List ℕ) (s' : State) (w : Bool) → leb 16 n ≡ w → Inv k s → Step s (Byte b) n a sent s' → Goes k s (entry (Byte b) n sent) a s'
-byte_goes k s b n a sent s' true w i d =
-    let r = byte_heard k s a sent s' i (heard b i.stands) (d.enough (leb-true 16 n w)) in
+byte_goes : (k : Book) (s : State) (b n : ℕ) (a : Answer) (sent : List ℕ) (s' : State) (w : Bool) → leb 16 n ≡ w → InRange s → Inv k s → Step s (Byte b) n a sent s' → Goes k s (entry (Byte b) n sent) a s'
+byte_goes k s b n a sent s' true w v i d =
+    let r = byte_heard k s a sent s' v i (heard b i.stands) (d.enough (leb-true 16 n w)) in
     record {
       inv = rw w r.inv;
       order_one = λ t. r.order_one;
@@ -239,7 +241,7 @@ byte_goes k s b n a sent s' true w i d =
       settings = λ t. inl (r.settings t);
       answer = λ o. absurd (byte_no_open b o);
     }
-byte_goes k s b n a sent s' false w i d = refused k s (entry (Byte b) n sent) a s' (byte_no_open b) w i (d.short (leb-false 16 n w))
+byte_goes k s b n a sent s' false w v i d = refused k s (entry (Byte b) n sent) a s' (byte_no_open b) w i (d.short (leb-false 16 n w))
 
 tick_goes : (k : Book) (s : State) (n : ℕ) (a : Answer) (sent : List ℕ) (s' : State) (w : Bool) → leb 16 n ≡ w → Inv k s → Step s Tick n a sent s' → Goes k s (entry Tick n sent) a s'
 tick_goes k s n a sent s' true w i d =
@@ -271,10 +273,10 @@ open_goes k s n a sent s' i d = record {
   answer = λ o. let x = tied_open i.one in let y = tied_open i.two in d.answer ∙ rw (x, y) refl;
 }
 
-goes : (k : Book) (s : State) (c : Call) (n : ℕ) (a : Answer) (sent : List ℕ) (s' : State) → Inv k s → Step s c n a sent s' → Goes k s (entry c n sent) a s'
-goes k s (Byte b) n a sent s' i d = byte_goes k s b n a sent s' (leb 16 n) refl i d
-goes k s Tick n a sent s' i d = tick_goes k s n a sent s' (leb 16 n) refl i d
-goes k s Open n a sent s' i d = open_goes k s n a sent s' i d
+pub goes : (k : Book) (s : State) (c : Call) (n : ℕ) (a : Answer) (sent : List ℕ) (s' : State) → InRange s → Inv k s → Step s c n a sent s' → Goes k s (entry c n sent) a s'
+goes k s (Byte b) n a sent s' v i d = byte_goes k s b n a sent s' (leb 16 n) refl v i d
+goes k s Tick n a sent s' v i d = tick_goes k s n a sent s' (leb 16 n) refl i d
+goes k s Open n a sent s' v i d = open_goes k s n a sent s' i d
 
 -- Every run.
 
@@ -288,9 +290,13 @@ just_made {s = s} d = record {
   two = tied _ _ (ap (λ (x : Sockets). x.two) d.sockets) (ap (λ (x : Slots). x.two) d.head.slots) rests;
 }
 
+pub in_range_in : {m : Meaning} {h : List Entry} {s : State} → Run m h s → InRange s
+in_range_in (law.Run.made d v) = v
+in_range_in (law.Run.then e a r d v) = v
+
 pub kept : {m : Meaning} {h : List Entry} {s : State} → Run m h s → Inv (book_of h) s
-kept (law.Run.made d) = just_made d
-kept (law.Run.then {h = h} {s = s} {s' = s'} e a r d) = (goes (book_of h) s e.call e.room a e.sent s' (kept r) d).inv
+kept (law.Run.made d v) = just_made d
+kept (law.Run.then {h = h} {s = s} {s' = s'} e a r d v) = (goes (book_of h) s e.call e.room a e.sent s' (in_range_in r) (kept r) d).inv
 
 agreement : (k : Book) (s : State) → Inv k s → Agreement k s
 agreement k s i =
@@ -311,33 +317,33 @@ lawful_call k s e a s' g = record {
 }
 
 pub call_law : {m : Meaning} {h : List Entry} {s : State} (e : Entry) (a : Answer) (s' : State) → Run m h s → Step s e.call e.room a e.sent s' → Law (book_of h) s e a s'
-call_law {h = h} {s = s} e a s' r d = lawful_call (book_of h) s e a s' (goes (book_of h) s e.call e.room a e.sent s' (kept r) d)
+call_law {h = h} {s = s} e a s' r d = lawful_call (book_of h) s e a s' (goes (book_of h) s e.call e.room a e.sent s' (in_range_in r) (kept r) d)
 
 pub every_run : {m : Meaning} {h : List Entry} {s : State} → Run m h s → Lawful m h s
-every_run (law.Run.made {s = s} d) = law.Lawful.made d (agreement fresh s (just_made d))
-every_run (law.Run.then {s' = s'} e a r d) = law.Lawful.then e a (every_run r) d (call_law e a s' r d)
+every_run (law.Run.made {s = s} d v) = law.Lawful.made d v (agreement fresh s (just_made d))
+every_run (law.Run.then {s' = s'} e a r d v) = law.Lawful.then e a (every_run r) d v (call_law e a s' r d)
 
 pub sockets_agree_in_every_run : SocketsAgreeInEveryRun
 sockets_agree_in_every_run m h s r = every_run r
 
-pub keeps : (s : State) (c : Call) (n : ℕ) (a : Answer) (sent : List ℕ) (s' : State) → Step s c n a sent s' → Keeps s c n a sent s'
-keeps s c n a sent s' d m h r = record { lawful = every_run (law.Run.then (entry c n sent) a r d); now = call_law (entry c n sent) a s' r d }
+pub keeps : (s : State) (c : Call) (n : ℕ) (a : Answer) (sent : List ℕ) (s' : State) → InRange s' → Step s c n a sent s' → Keeps s c n a sent s'
+keeps s c n a sent s' v d m h r = record { lawful = every_run (law.Run.then (entry c n sent) a r d v); now = call_law (entry c n sent) a s' r d }
 
 -- A list of calls.
 
 lawful_run : {m : Meaning} {h : List Entry} {s : State} → Lawful m h s → Run m h s
-lawful_run (law.Lawful.made d g) = law.Run.made d
-lawful_run (law.Lawful.then e a r d l) = law.Run.then e a (lawful_run r) d
+lawful_run (law.Lawful.made d v g) = law.Run.made d v
+lawful_run (law.Lawful.then e a r d v l) = law.Run.then e a (lawful_run r) d v
 
-pub played_none : {m : Meaning} {s : State} (n : ℕ) → Made m s → Played m [] n [] s
-played_none n d = record { run = []; asked = refl; logged = refl; shared = tt; lawful = every_run (law.Run.made d) }
+pub played_none : {m : Meaning} {s : State} (n : ℕ) → InRange s → Made m s → Played m [] n [] s
+played_none n v d = record { run = []; asked = refl; logged = refl; shared = tt; lawful = every_run (law.Run.made d v) }
 
 pub played_more : (m : Meaning) (cs : List Call) (n : ℕ) (bs : List ℕ) (s : State) (c : Call) (room : ℕ) (a : Answer) (sent : List ℕ) (s' : State) →
-    room ≡ room_for c (n - length bs) → Step s c room a sent s' → Played m cs n bs s → Played m (cs ++ c ∷ []) n (bs ++ sent) s'
-played_more m cs n bs s c room a sent s' e d v = record {
+    room ≡ room_for c (n - length bs) → InRange s' → Step s c room a sent s' → Played m cs n bs s → Played m (cs ++ c ∷ []) n (bs ++ sent) s'
+played_more m cs n bs s c room a sent s' e w d v = record {
   run = entry c room sent ∷ v.run;
   asked = ap (λ (x : List Call). x ++ c ∷ []) v.asked;
   logged = ap (λ (x : List ℕ). x ++ sent) v.logged;
   shared = (e ∙ ap (λ (x : List ℕ). room_for c (n - length x)) (sym v.logged), v.shared);
-  lawful = law.Lawful.then (entry c room sent) a v.lawful d (call_law (entry c room sent) a s' (lawful_run v.lawful) d);
+  lawful = law.Lawful.then (entry c room sent) a v.lawful d w (call_law (entry c room sent) a s' (lawful_run v.lawful) d);
 }

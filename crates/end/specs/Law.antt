@@ -5,7 +5,7 @@ use Rattle.end.specs.declared.call.Call.TheVariants.{Byte, Tick, Open}
 use Rattle.end.specs.Book.{Book, Entry, Seen, closed, working, Word, acknowledges, ends, other, word, told, cut, fresh, notes, accepted, enters, book_of}
 use Rattle.end.specs.Faults.{Answer, opens}
 use Rattle.end.specs.Sockets.{is_open}
-use Rattle.end.specs.States.{State}
+use Rattle.end.specs.States.{State, InRange}
 use Rattle.end.specs.Steps.{Made, Step}
 use Rattle.head.specs.declared.order.Order.{Order}
 use Rattle.head.specs.declared.setting.Axis.{Axis}
@@ -19,11 +19,11 @@ use Rattle.rows.specs.declared.request.Request.TheVariants.{Command, Ask}
 use Rattle.rows.specs.Requests.{read_body}
 use Rattle.wire.specs.Packets.{body_of}
 
--- A run: an end just made of a head that means m gets calls, refused ones included, and each is a step. The newest entry
--- stands first.
+-- A run: an end just made of a head that means m gets calls, refused ones included, and each is a step. The head's settings are
+-- in range all the while, as those of every head are. The newest entry stands first.
 pub data Run (m : Meaning) : List Entry → State → Type 0 where
-  made : {s : State} → Made m s → Run m [] s
-  then : {h : List Entry} {s s' : State} (e : Entry) (a : Answer) → Run m h s → Step s e.call e.room a e.sent s' → Run m (e ∷ h) s'
+  made : {s : State} → Made m s → InRange s → Run m [] s
+  then : {h : List Entry} {s s' : State} (e : Entry) (a : Answer) → Run m h s → Step s e.call e.room a e.sent s' → InRange s' → Run m (e ∷ h) s'
 
 -- Agreement.
 
@@ -112,9 +112,9 @@ pub record Law (k : Book) (s : State) (e : Entry) (a : Answer) (s' : State) : Ty
 
 -- a run of which the law holds after each call
 pub data Lawful (m : Meaning) : List Entry → State → Type 0 where
-  made : {s : State} → Made m s → Agreement fresh s → Lawful m [] s
+  made : {s : State} → Made m s → InRange s → Agreement fresh s → Lawful m [] s
   then : {h : List Entry} {s s' : State} (e : Entry) (a : Answer) →
-      Lawful m h s → Step s e.call e.room a e.sent s' → Law (book_of h) s e a s' → Lawful m (e ∷ h) s'
+      Lawful m h s → Step s e.call e.room a e.sent s' → InRange s' → Law (book_of h) s e a s' → Lawful m (e ∷ h) s'
 
 -- every run is lawful
 abbrev pub SocketsAgreeInEveryRun : Type 0

@@ -1,9 +1,12 @@
 -- An end and its head, as the rules speak of them.
-use Rattle.std.specs.Prelude.{ℕ, Bool, ℤ}
+use Rattle.std.specs.Prelude.{◌≡◌, ℕ, Bool, true, ℤ}
 use Rattle.end.specs.declared.end.End.{End}
 use Rattle.end.specs.declared.socket.Sockets.{Sockets}
 use Rattle.head.specs.declared.setting.Setting.{Setting}
+use Rattle.head.specs.declared.traits.Head.{Ghosts as HeadGhosts}
+use Rattle.head.specs.declared.traits.Look.{Ghosts as LookGhosts}
 use Rattle.head.specs.Meaning as head
+use Rattle.head.specs.Settings.{in_range}
 use Rattle.wire.specs.Framing.{Held, held}
 
 pub record State : Type 0 where
@@ -15,5 +18,9 @@ pub record State : Type 0 where
   pub held : Held
   pub sockets : Sockets
 
-abbrev pub view : {H : Type 0} → (H → Setting → ℤ) → (H → Bool) → (H → head.Slots) → End H → State
+-- every setting of the head is in its range, as of every head
+pub record InRange (s : State) : Type 0 where
+  pub each : (t : Setting) → in_range t (s.head.setting t) ≡ true
+
+abbrev pub view : {H : Type 0} {h : HeadGhosts H} {l : LookGhosts H} → (H → Setting → ℤ) → (H → Bool) → (H → head.Slots) → End H h l → State
 view f p g e = record { head = head.view f p g e.head; address = e.address; held = held e.framer; sockets = e.sockets }

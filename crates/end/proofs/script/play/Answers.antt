@@ -10,7 +10,7 @@ use Rattle.head.specs.Meaning as head
 use Rattle.end.proofs.script.play.Goals as goal
 
 pub loop-call-init : goal.loop-call-init
-loop-call-init g c = (omega arith, omega arith, λ m d. played_none (length c.args.log.now) d, refl)
+loop-call-init g c = (omega arith, omega arith, λ m d. played_none (length c.args.log.now) (record { each = g.met.H.Look.ranged c.make-end.result.head }) d, refl)
 
 pub loop-call-preserved : goal.loop-call-preserved
 loop-call-preserved g c =

@@ -14,7 +14,7 @@ returns-in-Byte g c =
       within = rw c.bytes_sent.ensures d.within;
       untouched = rw c.bytes_sent.ensures d.untouched;
       played = λ m cs n bs e v. simp (c.in-Byte.is, c.bytes_sent.ensures) (played_more m cs n bs
-          was (Byte c.in-Byte.byte) (length c.args.out.now) (answered c.byte.result) (take (count c.byte.result) c.byte.new.out) then e d.step v);
+          was (Byte c.in-Byte.byte) (length c.args.out.now) (answered c.byte.result) (take (count c.byte.result) c.byte.new.out) then e (record { each = g.met.H.Look.ranged c.byte.new.self.head }) d.step v);
     }
 
 pub returns-in-Tick : goal.returns-in-Tick
@@ -26,7 +26,7 @@ returns-in-Tick g c =
       within = rw c.bytes_sent-in-Tick.ensures d.within;
       untouched = rw c.bytes_sent-in-Tick.ensures d.untouched;
       played = λ m cs n bs e v. simp (c.in-Tick.is, c.bytes_sent-in-Tick.ensures) (played_more m cs n bs
-          was Tick (length c.args.out.now) (answered c.tick.result) (take (count c.tick.result) c.tick.new.out) then e d.step v);
+          was Tick (length c.args.out.now) (answered c.tick.result) (take (count c.tick.result) c.tick.new.out) then e (record { each = g.met.H.Look.ranged c.tick.new.self.head }) d.step v);
     }
 
 pub returns-in-Open : goal.returns-in-Open
@@ -36,5 +36,5 @@ returns-in-Open g c =
     record {
       within = search rules;
       untouched = search rules;
-      played = λ m cs n bs e v. simp c.in-Open.is (played_more m cs n bs was Open 0 (opens c.open.result.one c.open.result.two) [] was refl d.step v);
+      played = λ m cs n bs e v. simp c.in-Open.is (played_more m cs n bs was Open 0 (opens c.open.result.one c.open.result.two) [] was refl (record { each = g.met.H.Look.ranged c.args.end.now.head }) d.step v);
     }

@@ -5,4 +5,4 @@ use Rattle.end.proofs.end.End.byte.Goals as goal
 pub returns : goal.returns
 returns g c =
     let d = c.take_byte.ensures in
-    record { step = d.step; untouched = d.untouched; within = byte_within _ _ _ c.take_byte.result c.take_byte.new.out _ d.step; law = keeps _ _ _ _ _ _ d.step }
+    record { step = d.step; untouched = d.untouched; within = byte_within _ _ _ c.take_byte.result c.take_byte.new.out _ d.step; law = keeps _ _ _ _ _ _ (record { each = g.met.H.Look.ranged c.take_byte.new.self.head }) d.step }

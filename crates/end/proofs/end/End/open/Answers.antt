@@ -4,4 +4,4 @@ use Rattle.end.proofs.Runs.{keeps}
 use Rattle.end.proofs.end.End.open.Goals as goal
 
 pub returns : goal.returns
-returns g c = record { step = search rules; law = keeps _ Open _ _ _ _ (search rules) }
+returns g c = record { step = search rules; law = keeps _ Open _ _ _ _ (record { each = g.met.H.Look.ranged c.args.self.now.head }) (search rules) }
