@@ -1,24 +1,24 @@
 -- What each outcome of a whole packet leaves of the tie between book, end and head.
-use Rattle.std.proofs.Common.{◌≡◌, ℕ, pos, negsuc, ◌+◌, ◌*◌, ◌/◌, ◌%◌, ◌<◌, ◌≤◌, Bool, true, false, cond, not, ◌&&◌, ◌||◌, eqb, ltb, List, [], ◌∷◌, ◌++◌, ℤ, Some, None, Ok, Err, Option, Result, sym, refl, ap, ◌∙◌, subst, arith}
+use Rattle.std.proofs.Common.{◌≡◌, ℕ, pos, negsuc, ◌+◌, ◌/◌, ◌%◌, ◌≤◌, Bool, true, false, cond, not, ◌&&◌, eqb, List, [], ◌∷◌, ◌++◌, ℤ, Some, None, Ok, Err, Option, Result, sym, refl, ap, ◌∙◌, subst, arith}
 use Rattle.std.proofs.lemmas.Bool.{eqb-true, ne_eqb, or_parts}
 use Rattle.std.proofs.lemmas.Int.{ints}
 use Rattle.end.specs.declared.socket.Socket.{Socket}
 use Rattle.end.specs.declared.socket.Socket.TheVariants.{Closed, Open}
 use Rattle.end.specs.declared.socket.Sockets.{Sockets}
 use Rattle.end.specs.Book.{Seen, closed, working, other as nothing_said}
-use Rattle.end.specs.Deeds.{DidHead, sockets_after, nothing, clears, cancels, starts, displaces, Given, Displaced}
+use Rattle.end.specs.Deeds.{DidHead, sockets_after, clears, starts, displaces, Given}
 use Rattle.end.specs.Law.{ordered, read_as}
-use Rattle.end.specs.Outcomes.{Outcome, own_header, own, sends, does, fails, taken, commanded, requested, cancelled, met}
-use Rattle.end.specs.Sockets.{is_open, full, free, powering_in, meets, socket_at}
+use Rattle.end.specs.Outcomes.{Outcome, own_header, own, sends, does, taken, requested, cancelled}
+use Rattle.end.specs.Sockets.{full, free, powering_in, meets, socket_at}
 use Rattle.end.specs.States.{State}
 use Rattle.end.proofs.Heard.{Whole, whole}
 use Rattle.end.proofs.Ruled.{Foreign}
 use Rattle.end.proofs.Spoken.{Plain, Read, behind, said, read_none, read_own_other, read_foreign}
-use Rattle.end.proofs.Tied.{Tied, rests, works, tied_meets, After, after_read, after_owns}
+use Rattle.end.proofs.Tied.{Tied, rests, works, After, after_read, after_owns}
 use Rattle.head.specs.declared.order.Order.{Order}
 use Rattle.head.specs.declared.setting.Setting.{Setting}
 use Rattle.head.specs.declared.setting.Setting.TheVariants.{Pan, Tilt}
-use Rattle.head.specs.Meaning.{Meaning, Slot, Slots, idle, busy, order_in, reason, refusal, in_use, Holds, Started, Dropped}
+use Rattle.head.specs.Meaning.{Meaning, Slot, Slots, idle, busy, order_in, reason, refusal, in_use, Holds}
 use Rattle.head.specs.Orders.{parts, all_in_range, any_pan_tilt}
 use Rattle.head.specs.Settings.{Small}
 use Rattle.rows.specs.declared.fault.PacketFault.{PacketFault}
@@ -31,7 +31,6 @@ use Rattle.rows.specs.Answers as inquiry
 use Rattle.rows.specs.Digits.{bits, digits}
 use Rattle.rows.specs.Requests.{read_body}
 use Rattle.rows.proofs.Ranged.{body_in_range}
-use Rattle.rules.specs.declared.reply.Problem.{Problem}
 use Rattle.rules.specs.declared.reply.Problem.TheVariants.{Syntax, BufferFull, Cancelled as CancelledCommand, NoSocket, NotExecutable}
 use Rattle.rules.specs.declared.reply.Reply.{Reply}
 use Rattle.rules.specs.declared.reply.Reply.TheVariants.{Acknowledgement, Completion, Error}

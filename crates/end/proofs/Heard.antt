@@ -1,10 +1,10 @@
 -- The book frames bytes as the end does.
-use Rattle.std.proofs.Common.{◌≡◌, ℕ, ◌+◌, ◌<◌, ◌≤◌, Bool, true, false, cond, not, ◌&&◌, eqb, ltb, leb, List, [], ◌∷◌, ◌++◌, length, Some, None, Ok, Err, Option, sym, refl, ap, ◌∙◌, subst, arith, length-append}
-use Rattle.std.proofs.lemmas.Bool.{eqb-true, eqb-false, eq-eqb, ne_eqb, ltb-true, ltb-false, leb-true, leb-false, lt-ltb, le-ltb, le-leb, lt-leb, and_parts}
+use Rattle.std.proofs.Common.{◌≡◌, ℕ, ◌+◌, ◌<◌, ◌≤◌, Bool, true, false, cond, ◌&&◌, eqb, ltb, leb, List, [], ◌∷◌, ◌++◌, length, Some, None, Ok, Err, Option, sym, refl, ap, arith, length-append}
+use Rattle.std.proofs.lemmas.Bool.{eqb-true, eqb-false, ne_eqb, ltb-true, ltb-false, leb-true, lt-ltb, le-ltb, le-leb, lt-leb, and_parts}
 use Rattle.end.specs.Book.{Standing, between, inside, skipping, standing_after, made_whole}
 use Rattle.end.proofs.Spoken.{Plain, plain_push}
 use Rattle.wire.specs.declared.framer.FramingFault.{FramingFault}
-use Rattle.wire.specs.declared.framer.FramingFault.TheVariants.{NoHeader, NoBody, Overlong}
+use Rattle.wire.specs.declared.framer.FramingFault.TheVariants.{NoBody, Overlong}
 use Rattle.wire.specs.Framing as end
 use Rattle.wire.specs.Packets.{is_header}
 

@@ -1,9 +1,9 @@
 -- What the law means for whoever sends commands.
-use Rattle.std.proofs.Common.{◌≡◌, ℕ, ◌+◌, ◌*◌, ◌/◌, ◌%◌, ◌<◌, ◌≤◌, Bool, true, false, cond, not, ◌&&◌, ◌||◌, eqb, ◌⊎◌, List, [], ◌∷◌, ◌++◌, length, Some, None, Option, sym, refl, ap, ◌∙◌, subst, inl, inr, add-zero, add_assoc, arith}
-use Rattle.std.proofs.lemmas.Bool.{true≢false, cases_Bool, eqb-true, eqb-false, eq-eqb, ne_eqb, leb-true}
+use Rattle.std.proofs.Common.{◌≡◌, ℕ, ◌+◌, ◌*◌, ◌/◌, ◌%◌, ◌<◌, ◌≤◌, Bool, true, false, cond, eqb, ◌⊎◌, List, [], ◌∷◌, ◌++◌, length, Some, None, Option, sym, refl, ap, ◌∙◌, subst, inl, inr, add-zero, add_assoc, arith}
+use Rattle.std.proofs.lemmas.Bool.{true≢false, eqb-false, eq-eqb, ne_eqb}
 use Rattle.end.specs.declared.call.Call.{Call}
 use Rattle.end.specs.declared.call.Call.TheVariants.{Byte, Tick, Open}
-use Rattle.end.specs.Book.{Book, Entry, Standing, inside, Seen, closed, working, Word, acknowledges, ends, other, word, told, cut, reads, sees, hears, receives, ages, older, notes, made_whole, standing_after, clearing, seen_after, accepted, enters, book_of}
+use Rattle.end.specs.Book.{Book, Entry, Standing, inside, Seen, closed, working, Word, acknowledges, ends, other, word, told, cut, reads, receives, ages, notes, made_whole, standing_after, clearing, accepted, enters, book_of}
 use Rattle.end.specs.declared.socket.Socket.{Socket}
 use Rattle.end.specs.declared.socket.Socket.TheVariants.{Closed}
 use Rattle.end.specs.declared.socket.Sockets.{Sockets}

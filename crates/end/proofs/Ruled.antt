@@ -1,13 +1,12 @@
 -- The book takes a whole packet for a clearing, and for one that sets the address, exactly where the rules of the ring do.
-use Rattle.std.proofs.Common.{◌≡◌, ℕ, zero, suc, ◌+◌, ◌-◌, ◌/◌, ◌%◌, ◌<◌, ◌≤◌, Bool, true, false, cond, not, ◌&&◌, ◌||◌, eqb, ltb, leb, ◌⊎◌, List, [], ◌∷◌, ◌++◌, length, get_or, take, drop, Some, None, Option, sym, refl, ap, ◌∙◌, subst, inl, inr, append_assoc, arith, length-append}
+use Rattle.std.proofs.Common.{◌≡◌, ℕ, suc, ◌+◌, ◌-◌, ◌/◌, ◌%◌, ◌≤◌, Bool, true, false, cond, not, ◌&&◌, ◌||◌, eqb, ltb, leb, List, [], ◌∷◌, ◌++◌, length, get_or, Some, None, sym, refl, ap, ◌∙◌, subst, inl, inr, append_assoc, arith}
 use Rattle.std.proofs.lemmas.List.{get_or_at, take_at, length_push}
-use Rattle.std.proofs.lemmas.Bool.{eqb-true, eqb-false, eq-eqb, ne_eqb, ltb-true, lt-ltb, leb-true, and_parts, and_left, and_right, or_parts, or_cases, not-true, not-false, cases_Bool, both_ways}
+use Rattle.std.proofs.lemmas.Bool.{eqb-true, eqb-false, eq-eqb, ne_eqb, lt-ltb, leb-true, and_parts, and_left, and_right, or_parts, or_cases, not-true, not-false}
 use Rattle.end.specs.Book.{same, sets_address, address_after, clearing}
 use Rattle.end.proofs.Heard.{Whole, whole}
-use Rattle.end.proofs.Spoken.{Plain}
 use Rattle.rules.specs.declared.ring.Rule.{Rule}
 use Rattle.rules.specs.declared.ring.Rule.TheVariants.{TakenOff, AddressSet, ClearedForAll, SentOn, Cleared, Cancelled, Requested}
-use Rattle.rules.specs.Ring.{stand_at, are, header, sender, address_set, clears_all, for_this_end, or_else, rule_of}
+use Rattle.rules.specs.Ring.{stand_at, are, sender, or_else, rule_of}
 use Rattle.wire.specs.Packets.{body_of}
 
 -- The two ways to say that bytes are the same.

@@ -1,19 +1,18 @@
 -- The law of the sockets, for every run.
-use Rattle.std.proofs.Common.{◌≡◌, ℕ, ◌+◌, ◌-◌, ◌<◌, ◌≤◌, Bool, true, false, cond, eqb, leb, ◌⊎◌, List, [], ◌∷◌, ◌++◌, length, ℤ, Some, None, Ok, Err, Option, Result, sym, refl, ap, ◌∙◌, subst, inl, inr, arith}
-use Rattle.std.proofs.lemmas.Bool.{eqb-true, eq-eqb, leb-true, leb-false, cases_Bool, true≢false, false≢true}
+use Rattle.std.proofs.Common.{◌≡◌, ℕ, ◌-◌, ◌≤◌, Bool, true, false, cond, eqb, leb, ◌⊎◌, List, [], ◌∷◌, ◌++◌, length, ℤ, Some, None, Ok, Err, Option, Result, sym, refl, ap, ◌∙◌, subst, inl, inr, arith}
+use Rattle.std.proofs.lemmas.Bool.{eqb-true, leb-true, leb-false, true≢false}
 use Rattle.end.specs.declared.call.Call.{Call}
 use Rattle.end.specs.declared.call.Call.TheVariants.{Byte, Tick, Open}
 use Rattle.end.specs.declared.fault.Cause.TheVariants.{ShortBuffer}
-use Rattle.end.specs.declared.socket.Socket.{Socket}
 use Rattle.end.specs.declared.socket.Sockets.{Sockets}
-use Rattle.end.specs.Book.{Book, Entry, Standing, Seen, closed, working, between, other, word, told, cut, reads, receives, sees, hears, ages, older, notes, accepted, enters, book_of, fresh, address_after, clearing, standing_after, made_whole}
+use Rattle.end.specs.Book.{Book, Entry, Standing, Seen, closed, between, cut, reads, receives, sees, ages, older, notes, accepted, enters, book_of, fresh, clearing}
 use Rattle.end.specs.Deeds.{Same}
 use Rattle.end.specs.Faults.{Answer, opens}
 use Rattle.end.specs.Law.{Run, Lawful, Law, Agreement, InOrder, InTime, MayChange, open_by, entry, Keeps, Played, room_for, SocketsAgreeInEveryRun}
 use Rattle.end.specs.Law as law
 use Rattle.end.specs.Outcomes.{Outcome, own_header, sends, fails, framed, met, ended, requested as asked-for}
 use Rattle.end.specs.States.{State, InRange}
-use Rattle.end.specs.Steps.{Came, Made, Step, Told}
+use Rattle.end.specs.Steps.{Came, Made, Step}
 use Rattle.end.proofs.Effects as effects
 use Rattle.end.proofs.Heard.{Stands, nowhere, Heard, nothing, faulty, packet, heard, Whole}
 use Rattle.end.proofs.Ruled.{Ruled, taken_off, address, cleared_for_all, sent_on, cleared, cancelled, requested, ruled}
@@ -28,8 +27,6 @@ use Rattle.rows.specs.declared.request.Request.{Request}
 use Rattle.rows.specs.declared.request.Request.TheVariants.{Command, Ask}
 use Rattle.rows.specs.Requests.{read_body}
 use Rattle.rules.specs.declared.ring.Rule.{Rule}
-use Rattle.rules.specs.declared.ring.Rule.TheVariants.{TakenOff, AddressSet, ClearedForAll, SentOn, Cleared, Cancelled, Requested}
-use Rattle.rules.specs.Ring.{rule_of}
 use Rattle.wire.specs.Framing.{Held, none, Event}
 use Rattle.wire.specs.Packets.{body_of}
 

@@ -1,15 +1,14 @@
 -- What the book makes of bytes that an end sends: its own replies, and packets that say nothing of its sockets.
-use Rattle.std.proofs.Common.{◌≡◌, ℕ, ◌+◌, ◌*◌, ◌/◌, ◌%◌, ◌<◌, ◌≤◌, Bool, true, false, cond, not, ◌&&◌, ◌||◌, eqb, List, [], ◌∷◌, ◌++◌, get_or, sym, refl, ap, ◌∙◌, subst, append_assoc, mod-lt, arith}
+use Rattle.std.proofs.Common.{◌≡◌, ℕ, ◌+◌, ◌/◌, ◌%◌, ◌<◌, ◌≤◌, Bool, true, false, cond, not, ◌&&◌, eqb, List, [], ◌∷◌, ◌++◌, sym, refl, ap, ◌∙◌, subst, append_assoc, arith}
 use Rattle.std.proofs.lemmas.Bool.{eqb-false, eq-eqb, ne_eqb}
-use Rattle.end.specs.Book.{Seen, closed, working, Word, acknowledges, ends, other, same, cut, cut_from, word, told, reads}
+use Rattle.end.specs.Book.{Seen, Word, acknowledges, ends, other, same, cut, cut_from, word, told, reads}
 use Rattle.end.specs.Law.{Due, InOrder}
 use Rattle.end.specs.Outcomes.{own, own_header}
 use Rattle.rules.specs.declared.reply.Problem.{Problem}
 use Rattle.rules.specs.declared.reply.Problem.TheVariants.{Syntax, BufferFull, Cancelled, NoSocket, NotExecutable}
 use Rattle.rules.specs.declared.reply.Reply.{Reply}
 use Rattle.rules.specs.declared.reply.Reply.TheVariants.{Acknowledgement, Completion, Error}
-use Rattle.rules.specs.Replies.{packet, code_of}
-use Rattle.rules.specs.Ring.{header, sender}
+use Rattle.rules.specs.Replies.{code_of}
 
 -- Bytes without FF, and how they are cut.
 

@@ -1,5 +1,5 @@
 -- What a tick leaves of the tie between book, end and head, and which settings it may change.
-use Rattle.std.proofs.Common.{◌≡◌, ℕ, zero, suc, ◌+◌, ◌-◌, ◌<◌, ◌≤◌, Bool, true, false, eqb, ◌⊎◌, List, [], ◌∷◌, ◌++◌, ℤ, pos, negsuc, is_some, Some, None, Option, sym, refl, ap, ◌∙◌, subst, inl, inr, arith}
+use Rattle.std.proofs.Common.{◌≡◌, ℕ, zero, suc, ◌≤◌, true, false, eqb, ◌⊎◌, List, [], ◌∷◌, ◌++◌, ℤ, pos, negsuc, Some, None, Option, sym, refl, ◌∙◌, subst, inl, inr, arith}
 use Rattle.end.specs.declared.socket.Socket.{Socket}
 use Rattle.end.specs.declared.socket.Socket.TheVariants.{Closed, Open}
 use Rattle.end.specs.declared.socket.Sockets.{Sockets}
@@ -16,9 +16,9 @@ use Rattle.head.specs.declared.outcome.Ending.TheVariants.{Done, Jammed}
 use Rattle.head.specs.declared.outcome.Endings.{Endings}
 use Rattle.head.specs.declared.setting.Axis.{Axis}
 use Rattle.head.specs.declared.setting.Setting.{Setting}
-use Rattle.head.specs.Meaning.{Meaning, Slot, Slots, idle, busy, SlotTicked, Ticked, wanted, Unnamed}
-use Rattle.head.specs.Orders.{parts, wants, names}
-use Rattle.head.specs.Settings.{about, position, drive}
+use Rattle.head.specs.Meaning.{Meaning, Slot, Slots, SlotTicked, Ticked, wanted, Unnamed}
+use Rattle.head.specs.Orders.{parts, wants}
+use Rattle.head.specs.Settings.{about, drive}
 use Rattle.head.proofs.Tables.{position_is}
 use Rattle.rules.specs.declared.reply.Problem.TheVariants.{NotExecutable}
 use Rattle.rules.specs.declared.reply.Reply.TheVariants.{Completion, Error}

@@ -1,10 +1,10 @@
 -- A socket by the book, by the end and by the head: what is kept from call to call.
-use Rattle.std.proofs.Common.{◌≡◌, ℕ, ◌+◌, ◌<◌, ◌≤◌, Bool, true, false, not, ◌&&◌, eqb, ◌⊎◌, List, [], ℤ, Some, None, Option, sym, refl, ap, ◌∙◌, subst, inl, inr, arith}
+use Rattle.std.proofs.Common.{◌≡◌, ℕ, ◌+◌, ◌≤◌, false, eqb, List, ℤ, Some, sym, refl, ap, subst, arith}
 use Rattle.end.specs.declared.socket.Socket.{Socket}
 use Rattle.end.specs.declared.socket.Socket.TheVariants.{Closed, Open}
 use Rattle.end.specs.declared.socket.Sockets.{Sockets}
 use Rattle.end.specs.Book.{Seen, closed, working, cut, reads}
-use Rattle.end.specs.Law.{read_as, open_by, command_of, Holds, InOrder, InTime}
+use Rattle.end.specs.Law.{read_as, open_by, Holds, InOrder, InTime}
 use Rattle.end.specs.Sockets.{is_open, meets}
 use Rattle.end.specs.States.{State}
 use Rattle.end.proofs.Spoken.{Read, owns, spoken, AllDue, read_owns}

@@ -1,5 +1,5 @@
 -- What a call does to the sockets and the head.
-use Rattle.std.specs.Prelude.{◌≡◌, ℕ, ◌-◌, cond, Some, None, Option}
+use Rattle.std.specs.Prelude.{◌≡◌, ℕ, ◌-◌, Some, None, Option}
 use Rattle.end.specs.declared.socket.Socket.{Socket}
 use Rattle.end.specs.declared.socket.Socket.TheVariants.{Closed, Open}
 use Rattle.end.specs.declared.socket.Sockets.{Sockets}

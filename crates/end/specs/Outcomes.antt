@@ -1,6 +1,6 @@
 -- What comes of a byte, by the end's address a, what its head means m, and its sockets k: a fault if any, the bytes sent,
 -- the address then, and the deed.
-use Rattle.std.specs.Prelude.{ℕ, ◌+◌, ◌*◌, Bool, cond, List, [], ◌∷◌, ◌++◌, length, Some, None, Ok, Err, Option, Result}
+use Rattle.std.specs.Prelude.{ℕ, ◌+◌, ◌*◌, cond, List, [], ◌∷◌, ◌++◌, length, Some, None, Ok, Err, Option, Result}
 use Rattle.end.specs.declared.fault.Cause.{Cause}
 use Rattle.end.specs.declared.fault.Cause.TheVariants.{Framing, Packet}
 use Rattle.end.specs.declared.socket.Sockets.{Sockets}
@@ -25,7 +25,6 @@ use Rattle.rules.specs.declared.ring.Rule.TheVariants.{TakenOff, AddressSet, Cle
 use Rattle.rules.specs.Modes.{forbidden_by}
 use Rattle.rules.specs.Replies.{packet}
 use Rattle.rules.specs.Ring.{rule_of}
-use Rattle.wire.specs.declared.framer.FramingFault.{FramingFault}
 use Rattle.wire.specs.Framing.{Event}
 use Rattle.wire.specs.Packets.{body_of}
 

@@ -1,12 +1,11 @@
 -- Exchanges tried, runs that the book was tried on, and what the law does not let pass: the definitions held to their word.
-use Rattle.std.specs.Prelude.{◌≡◌, ℕ, Bool, true, false, List, [], ◌∷◌, ◌++◌, Some}
-use Rattle.end.specs.declared.call.Call.{Call}
+use Rattle.std.specs.Prelude.{◌≡◌, ℕ, true, List, [], ◌∷◌, ◌++◌, Some}
 use Rattle.end.specs.declared.call.Call.TheVariants.{Byte, Tick, Open}
 use Rattle.end.specs.declared.socket.Sockets.{Sockets}
-use Rattle.end.specs.Book.{Book, Entry, Seen, closed, working, book_of}
+use Rattle.end.specs.Book.{Entry, Seen, closed, working, book_of}
 use Rattle.end.specs.Deeds.{sockets_after, both_idle}
 use Rattle.end.specs.Law.{read_as, Holds, InOrder, InTime, entry}
-use Rattle.end.specs.Outcomes.{Outcome, met}
+use Rattle.end.specs.Outcomes.{met}
 use Rattle.end.specs.Sockets.{both_closed}
 use Rattle.head.specs.declared.order.Order.{Order}
 use Rattle.head.specs.Meaning.{Meaning, idle, busy}

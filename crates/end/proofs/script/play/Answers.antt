@@ -1,4 +1,4 @@
-use Rattle.std.proofs.Common.{◌≡◌, ℕ, ◌+◌, ◌-◌, ◌≤◌, List, length, take, drop, sym, refl, ◌∙◌, subst, arith, length-drop, length-take, rules}
+use Rattle.std.proofs.Common.{◌≡◌, ◌-◌, List, length, take, drop, refl, subst, arith, length-drop, length-take, rules}
 use Rattle.std.proofs.lemmas.List.{take_more, take_all, length-take-le}
 use Rattle.end.specs.declared.call.Call.{Call}
 use Rattle.end.specs.declared.call.Call.TheVariants.{Byte}
