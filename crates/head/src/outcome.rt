@@ -1,7 +1,7 @@
 //! What a head answers: why it turns an order down, and what a tick tells of its slots.
 
 /// Why an order is turned down, in the order in which the reasons are looked at.
-#[derive(Clone, Copy)]
+#[derive(Clone, Copy, Debug, PartialEq, Eq)]
 pub enum Refusal {
     /// 1: the slot is neither 1 nor 2.
     NoSuchSlot,
@@ -16,7 +16,7 @@ pub enum Refusal {
 }
 
 /// How an order ended.
-#[derive(Clone, Copy)]
+#[derive(Clone, Copy, Debug, PartialEq, Eq)]
 pub enum Ending {
     Done,
     /// A position did not get to its target.
@@ -24,7 +24,7 @@ pub enum Ending {
 }
 
 /// The orders that ended at a tick, by slot.
-#[derive(Clone, Copy)]
+#[derive(Clone, Copy, Debug, PartialEq, Eq)]
 pub struct Endings {
     pub one: Option<Ending>,
     pub two: Option<Ending>,

@@ -101,13 +101,6 @@ impl Setting {
             _ => None,
         }
     }
-
-    /// Whether both are the same setting.
-    pub(crate) fn is(self, other: Setting) -> bool
-        ensures { result ≡ same self other }
-    {
-        self.number() == other.number()
-    }
 }
 
 impl Range {

@@ -7,14 +7,14 @@ ghost use Rattle.head.specs.Orders.{parts, wanted_first, wants, different, all_i
 use crate::setting::Setting;
 
 /// A setting and the value that it is to get.
-#[derive(Clone, Copy)]
+#[derive(Clone, Copy, Debug, PartialEq, Eq)]
 pub struct Target {
     pub setting: Setting,
     pub value: i32,
 }
 
 /// One to four targets.
-#[derive(Clone, Copy)]
+#[derive(Clone, Copy, Debug, PartialEq, Eq)]
 pub enum Targets {
     One(Target),
     Two(Target, Target),
@@ -27,7 +27,7 @@ impl Target {
     fn or(self, setting: Setting, rest: Option<i32>) -> Option<i32>
         ensures { result ≡ wanted_first self setting rest }
     {
-        if self.setting.is(setting) {
+        if self.setting == setting {
             Some(self.value)
         } else {
             rest
