@@ -27,6 +27,10 @@ pub enum Setting {
     TiltDrive,
 }
 
+/// A number that no setting has.
+#[derive(Clone, Copy, Debug, PartialEq, Eq)]
+pub struct NoSuchSetting(pub u8);
+
 /// What moves: an axis has a position and a drive, each a setting.
 #[derive(Clone, Copy, Debug, PartialEq, Eq, PartialOrd, Ord, Hash)]
 pub enum Axis {

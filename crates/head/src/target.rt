@@ -21,6 +21,16 @@ pub enum Targets {
     Four([Target; 4]),
 }
 
+// The value that the first of the targets for the setting gives it.
+fn wanted(targets: &[Target], setting: Setting) -> Option<i32>
+    ensures { result ≡ wants targets.now setting }
+{
+    targets
+        .iter()
+        .find(|t| t.setting == setting)
+        .map(|t| t.value)
+}
+
 // Whether no setting is named twice.
 fn differ(targets: &[Target]) -> bool
     ensures { result ≡ different targets.now }
@@ -29,13 +39,6 @@ fn differ(targets: &[Target]) -> bool
         [first, rest @ ..] => wanted(rest, first.setting).is_none() && differ(rest),
         [] => true,
     }
-}
-
-// The value that the first of the targets for the setting gives it.
-fn wanted(targets: &[Target], setting: Setting) -> Option<i32>
-    ensures { result ≡ wants targets.now setting }
-{
-    targets.iter().find(|t| t.setting == setting).map(|t| t.value)
 }
 
 impl Targets {
