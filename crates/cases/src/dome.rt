@@ -34,10 +34,10 @@ fn steps(rt: HostRuntime) -> Result<(), Fail> {
             pan: pace,
             tilt: pace,
         };
-        let targets = Targets::One(Target {
+        let targets = Targets::One([Target {
             setting,
             value: target,
-        });
+        }]);
         let Some(order) = Order::new(targets, paces) else {
             return Err(Fail::new("a setting is named twice"));
         };
@@ -73,10 +73,10 @@ fn drives(rt: HostRuntime) -> Result<(), Fail> {
             pan: 0,
             tilt: 0,
         };
-        let targets = Targets::One(Target {
+        let targets = Targets::One([Target {
             setting: drive,
             value,
-        });
+        }]);
         let Some(order) = Order::new(targets, paces) else {
             return Err(Fail::new("a setting is named twice"));
         };
@@ -109,7 +109,7 @@ fn a_stalled_dome_jams(rt: HostRuntime) -> Result<(), Fail> {
         setting: Setting::Mute,
         value: 2,
     };
-    let Some(order) = Order::new(Targets::Two(zoom, mute), paces) else {
+    let Some(order) = Order::new(Targets::Two([zoom, mute]), paces) else {
         return Err(Fail::new("a setting is named twice"));
     };
     let mut dome = Dome::new(true);
@@ -121,7 +121,7 @@ fn a_stalled_dome_jams(rt: HostRuntime) -> Result<(), Fail> {
         setting: Setting::Zoom,
         value: 0,
     };
-    let Some(order) = Order::new(Targets::Two(home, mute), paces) else {
+    let Some(order) = Order::new(Targets::Two([home, mute]), paces) else {
         return Err(Fail::new("a setting is named twice"));
     };
     assert!(rt; dome.start(1, order).is_ok());

@@ -1,6 +1,6 @@
 //! Every setting at the ends of its range and one past them.
 
-use head::Setting;
+use head::{NoSuchSetting, Setting};
 use std::test::Fail;
 
 // A setting's number, its lowest and its highest value.
@@ -35,7 +35,7 @@ const GAPS: [(u8, i32); 6] = [(6, 4), (9, 1), (9, 2), (9, 4), (9, 9), (9, 12)];
 #[test]
 fn spans(rt: HostRuntime) -> Result<(), Fail> {
     for (number, low, high) in SPANS {
-        let setting = Setting::from_number(number).ok_or("no such setting")?;
+        let setting = Setting::try_from(number)?;
         assert_eq!(rt; setting.number(), number);
         assert!(rt; setting.admits(low) && setting.admits(high));
         assert!(rt; !setting.admits(low.saturating_sub(1)));
@@ -47,9 +47,10 @@ fn spans(rt: HostRuntime) -> Result<(), Fail> {
 #[test]
 fn gaps(rt: HostRuntime) -> Result<(), Fail> {
     for (number, value) in GAPS {
-        let setting = Setting::from_number(number).ok_or("no such setting")?;
+        let setting = Setting::try_from(number)?;
         assert!(rt; !setting.admits(value));
     }
-    assert!(rt; Setting::from_number(22).is_none() && Setting::from_number(255).is_none());
+    assert_eq!(rt; Setting::try_from(22), Err(NoSuchSetting(22)));
+    assert_eq!(rt; Setting::try_from(255), Err(NoSuchSetting(255)));
     Ok(())
 }

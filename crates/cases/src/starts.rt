@@ -17,14 +17,7 @@ fn to(setting: Setting, value: i32) -> Target {
 }
 
 fn number(r: Result<(), Refusal>) -> u8 {
-    match r {
-        Ok(()) => 0,
-        Err(Refusal::NoSuchSlot) => 1,
-        Err(Refusal::SlotBusy) => 2,
-        Err(Refusal::OutOfRange) => 3,
-        Err(Refusal::NoPanTilt) => 4,
-        Err(Refusal::SettingInUse) => 5,
-    }
+    r.map_or_else(Refusal::number, |()| 0)
 }
 
 // Orders in turn, each for a slot, and what a block and a dome answer. The first reason counts:
@@ -46,7 +39,7 @@ fn reasons(rt: HostRuntime) -> Result<(), Fail> {
     let mut block = Block::new();
     let mut dome = Dome::new(false);
     for (slot, setting, value, by_block, by_dome) in ROWS {
-        let Some(order) = Order::new(Targets::One(to(setting, value)), paces()) else {
+        let Some(order) = Order::new(Targets::One([to(setting, value)]), paces()) else {
             return Err(Fail::new("a setting is named twice"));
         };
         assert_eq!(rt; number(block.start(slot, order)), by_block);
@@ -65,16 +58,16 @@ fn a_setting_named_twice_is_no_order(rt: HostRuntime) {
         to(Setting::Zoom, 3),
     );
     let again = to(Setting::Pan, 4);
-    assert!(rt; Order::new(Targets::Two(a, again), paces()).is_none());
-    assert!(rt; Order::new(Targets::Three(a, b, again), paces()).is_none());
-    assert!(rt; Order::new(Targets::Four(b, a, c, again), paces()).is_none());
-    assert!(rt; Order::new(Targets::Three(a, b, c), paces()).is_some());
+    assert!(rt; Order::new(Targets::Two([a, again]), paces()).is_none());
+    assert!(rt; Order::new(Targets::Three([a, b, again]), paces()).is_none());
+    assert!(rt; Order::new(Targets::Four([b, a, c, again]), paces()).is_none());
+    assert!(rt; Order::new(Targets::Three([a, b, c]), paces()).is_some());
 }
 
 #[test]
 fn a_dropped_slot_moves_nothing(rt: HostRuntime) -> Result<(), Fail> {
     let mut dome = Dome::new(false);
-    let Some(order) = Order::new(Targets::One(to(Setting::Tilt, 100)), paces()) else {
+    let Some(order) = Order::new(Targets::One([to(Setting::Tilt, 100)]), paces()) else {
         return Err(Fail::new("a setting is named twice"));
     };
     assert_eq!(rt; number(dome.start(2, order)), 0);

@@ -3,12 +3,12 @@
 
 #![tactic(auto)]
 
-use head::{Ending, Endings, Head, Look, Order, Paces, Refusal, Setting, Target, Targets};
+use head::{Ending, Endings, Head, Look, Order, Paces, Setting, Target, Targets};
 use heads::{Block, Dome};
 use std::io;
 
 // What the room's operator asks for.
-const TO_THE_LECTERN: Targets = Targets::Three(
+const TO_THE_LECTERN: Targets = Targets::Three([
     Target {
         setting: Setting::Pan,
         value: -1200,
@@ -21,20 +21,10 @@ const TO_THE_LECTERN: Targets = Targets::Three(
         setting: Setting::Zoom,
         value: 6144,
     },
-);
+]);
 
 fn to(setting: Setting, value: i32) -> Targets {
-    Targets::One(Target { setting, value })
-}
-
-fn text(refusal: Refusal) -> &'static str {
-    match refusal {
-        Refusal::NoSuchSlot => "1, there is no such slot",
-        Refusal::SlotBusy => "2, the slot has work",
-        Refusal::OutOfRange => "3, a target is out of range",
-        Refusal::NoPanTilt => "4, this head has no pan and tilt",
-        Refusal::SettingInUse => "5, the other slot's order names that setting",
-    }
+    Targets::One([Target { setting, value }])
 }
 
 // Starts an order and says what came of it.
@@ -54,8 +44,8 @@ fn start<H: Head>(
             println!(rt; "  slot {slot} takes the order, ticks left: {left}")
         }
         Err(refusal) => {
-            let text = text(refusal);
-            println!(rt; "  slot {slot} turns the order down: {text}")
+            let number = refusal.number();
+            println!(rt; "  slot {slot} turns the order down: {number}, {refusal}")
         }
     }
 }
@@ -129,7 +119,7 @@ fn follow(rt: &impl Print, dome: &mut Dome) -> io::Result<()> {
 
 fn jam(rt: &impl Print, dome: &mut Dome) -> io::Result<()> {
     println!(rt; "A stalled dome: pan to 400 and freeze on, at pan pace 10.")?;
-    let targets = Targets::Two(
+    let targets = Targets::Two([
         Target {
             setting: Setting::Pan,
             value: 400,
@@ -138,7 +128,7 @@ fn jam(rt: &impl Print, dome: &mut Dome) -> io::Result<()> {
             setting: Setting::Freeze,
             value: 2,
         },
-    );
+    ]);
     let paces = Paces {
         lens: 0,
         pan: 10,

@@ -1,6 +1,5 @@
 //! Orders in words.
 
-use head::table::ALL;
 use head::{Axis, Order, Setting};
 use std::io;
 
@@ -44,7 +43,7 @@ fn show_target(rt: &impl Print, first: bool, setting: Setting, value: i32) -> io
 
 fn show_targets(rt: &impl Print, order: &Order) -> io::Result<()> {
     let mut first = true;
-    for setting in ALL {
+    for setting in Setting::ALL {
         if let Some(value) = order.target(setting) {
             if !goes_without_saying(order, setting) {
                 show_target(rt, first, setting, value)?;

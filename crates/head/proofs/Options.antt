@@ -1,8 +1,8 @@
 -- Some and None are apart, and what Some holds is known.
-use Rattle.std.proofs.Common.{◌≡◌, ℕ, Some, None, arith}
+use Rattle.std.proofs.Common.{◌≡◌, Some, None}
 
 pub no_some : {A : Type 0} {x : A} {P : Type 0} → None ≡ Some x → P
-no_some e = let z : ◌≡◌ {A = ℕ} 0 1 = cc in absurd (omega arith)
+no_some e = cc
 
 pub some_out : {A : Type 0} {x y : A} → Some x ≡ Some y → x ≡ y
 some_out e = cc

@@ -1,12 +1,13 @@
 -- What holds of each number below a bound, and so of every setting, by one computed test.
 use Rattle.std.proofs.Common.{◌≡◌, ℕ, zero, suc, ◌+◌, ◌<◌, Bool, true, false, cond, ◌&&◌, eqb, get_or, ℤ, Some, None, Option, sym, refl, ap, ◌∙◌, subst, ⊎_elim, arith}
-use Rattle.std.proofs.lemmas.Bool.{eqb-true, eqb-false, lt-ltb, cases_Bool}
+use Rattle.std.proofs.lemmas.Bool.{eqb-true, eqb-false, cases_Bool}
+use Rattle.std.proofs.lemmas.Option.{get_or_from_slice_get, slice_get_within}
+use Rattle.std.specs.Option.{option_map}
 use Rattle.std.proofs.lemmas.Bool.Decides.{Decides-below_and}
 use Rattle.head.specs.declared.setting.Setting.{Setting}
-use Rattle.head.specs.declared.setting.Setting.TheVariants.{Power, Zoom, ZoomDrive, FocusMode, Focus, FocusDrive, WhiteBalance, RedGain, BlueGain, ExposureMode, Shutter, Iris, Gain, Bright, Freeze, Mute, Infrared, Identity, Pan, Tilt, PanDrive, TiltDrive}
+use Rattle.head.specs.declared.setting.Setting.TheVariants.{Power}
 use Rattle.head.specs.declared.setting.Axis.{Axis}
-use Rattle.head.specs.declared.setting.Axis.TheVariants as axis
-use Rattle.head.specs.Settings.{about, all, number, looked, same, position}
+use Rattle.head.specs.Settings.{about, all, number, numbered, looked, same, position}
 
 abbrev pub all_below : (ℕ → Bool) → ℕ → Bool
 all_below p zero = true
@@ -17,53 +18,14 @@ each_below p n h =
     (Decides-below_and p (λ k. p k ≡ true) (all_below p) (λ k. (λ e. e, λ e. e)) refl (λ _. refl) n).0 h
 
 -- the table has each setting at its number
+numbered_is : (s : Setting) → numbered (number s) ≡ Some s
+numbered_is s = grind arith
+
 pub in_place : (s : Setting) → get_or all (number s) Power ≡ s
-in_place Power = refl
-in_place Zoom = refl
-in_place ZoomDrive = refl
-in_place FocusMode = refl
-in_place Focus = refl
-in_place FocusDrive = refl
-in_place WhiteBalance = refl
-in_place RedGain = refl
-in_place BlueGain = refl
-in_place ExposureMode = refl
-in_place Shutter = refl
-in_place Iris = refl
-in_place Gain = refl
-in_place Bright = refl
-in_place Freeze = refl
-in_place Mute = refl
-in_place Infrared = refl
-in_place Identity = refl
-in_place Pan = refl
-in_place Tilt = refl
-in_place PanDrive = refl
-in_place TiltDrive = refl
+in_place s = get_or_from_slice_get all (number s) s Power (numbered_is s)
 
 pub below : (s : Setting) → number s < 22
-below Power = omega arith
-below Zoom = omega arith
-below ZoomDrive = omega arith
-below FocusMode = omega arith
-below Focus = omega arith
-below FocusDrive = omega arith
-below WhiteBalance = omega arith
-below RedGain = omega arith
-below BlueGain = omega arith
-below ExposureMode = omega arith
-below Shutter = omega arith
-below Iris = omega arith
-below Gain = omega arith
-below Bright = omega arith
-below Freeze = omega arith
-below Mute = omega arith
-below Infrared = omega arith
-below Identity = omega arith
-below Pan = omega arith
-below Tilt = omega arith
-below PanDrive = omega arith
-below TiltDrive = omega arith
+below s = slice_get_within all (number s) s (numbered_is s)
 
 -- the test of the table: what it passes holds of every setting
 abbrev pub every : (Setting → Bool) → Bool
@@ -84,7 +46,7 @@ number_at k h =
 
 -- looking at a setting's number tells its value
 pub looked_is : (f : Setting → ℤ) (s : Setting) → looked f (number s) ≡ Some (f s)
-looked_is f s = simp (lt-ltb (number s) 22 (below s), in_place s)
+looked_is f s = ap (option_map f) (numbered_is s)
 
 -- one setting more that a loop over the table has given its value
 pub passed_more : (k : ℕ) (x : Setting) (taken : Bool) (w : ℤ) (old new g : Setting → ℤ) → number x ≡ k → taken ≡ true → w ≡ g x
@@ -106,7 +68,4 @@ position_is s a e =
     same_is (position a) s (subst (λ (x : Option Axis). tied s x ≡ true) e (each (λ z. tied z (about z).axis) refl s))
 
 pub axis_is : (a : Axis) → (about (position a)).axis ≡ Some a
-axis_is axis.Zoom = refl
-axis_is axis.Focus = refl
-axis_is axis.Pan = refl
-axis_is axis.Tilt = refl
+axis_is a = grind arith

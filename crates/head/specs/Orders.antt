@@ -1,32 +1,27 @@
 -- What an order names: the value that each setting is to get, by its one to four targets.
-use Rattle.std.specs.Prelude.{Bool, true, false, cond, not, ◌&&◌, ◌||◌, List, [], ◌∷◌, ℤ, is_some, Some, None, Option}
+use Rattle.std.specs.Prelude.{Bool, true, not, ◌&&◌, ◌||◌, List, [], ◌∷◌, ℤ, pos, is_some, Option, slice_index_or, find}
+use Rattle.std.specs.List.{list_all, list_any}
+use Rattle.std.specs.Option.{option_map}
 use Rattle.head.specs.declared.setting.Setting.{Setting}
-use Rattle.head.specs.declared.setting.Setting.TheVariants.{Pan, Tilt, PanDrive, TiltDrive}
+use Rattle.head.specs.declared.setting.Setting.TheVariants.{Power, Pan, Tilt, PanDrive, TiltDrive}
 use Rattle.head.specs.declared.target.Target.{Target}
 use Rattle.head.specs.declared.target.Targets.{Targets}
 use Rattle.head.specs.declared.target.Targets.TheVariants.{One, Two, Three, Four}
 use Rattle.head.specs.Settings.{same, in_range}
 
 abbrev pub parts : Targets → List Target
-parts (One a) = a ∷ []
-parts (Two a b) = a ∷ b ∷ []
-parts (Three a b c) = a ∷ b ∷ c ∷ []
-parts (Four a b c d) = a ∷ b ∷ c ∷ d ∷ []
+parts (One ts) = ts
+parts (Two ts) = ts
+parts (Three ts) = ts
+parts (Four ts) = ts
 
--- the target that stands first
+-- the target that stands first; there is one, whatever stands here in place of one
 abbrev pub leading : Targets → Target
-leading (One a) = a
-leading (Two a b) = a
-leading (Three a b c) = a
-leading (Four a b c d) = a
-
-abbrev pub wanted_first : Target → Setting → Option ℤ → Option ℤ
-wanted_first t s rest = cond (same t.setting s) (Some t.value) rest
+leading ts = slice_index_or (parts ts) 0 (record { setting = Power; value = pos 0 })
 
 -- the value that a setting is to get, if it is named
 abbrev pub wants : List Target → Setting → Option ℤ
-wants [] s = None
-wants (t ∷ ts) s = wanted_first t s (wants ts s)
+wants ts s = option_map (λ t. t.value) (find (λ t. same t.setting s) ts)
 
 abbrev pub names : List Target → Setting → Bool
 names ts s = is_some (wants ts s)
@@ -37,8 +32,7 @@ different [] = true
 different (t ∷ ts) = not (names ts t.setting) && different ts
 
 abbrev pub all_in_range : List Target → Bool
-all_in_range [] = true
-all_in_range (t ∷ ts) = in_range t.setting t.value && all_in_range ts
+all_in_range ts = list_all (λ t. in_range t.setting t.value) ts
 
 -- one of the settings 18 to 21 is named
 abbrev pub any_pan_tilt : List Target → Bool
@@ -46,5 +40,4 @@ any_pan_tilt ts = names ts Pan || names ts Tilt || names ts PanDrive || names ts
 
 -- some setting is named by both
 abbrev pub shares : List Target → List Target → Bool
-shares [] us = false
-shares (t ∷ ts) us = names us t.setting || shares ts us
+shares ts us = list_any (λ t. names us t.setting) ts

@@ -1,5 +1,5 @@
 -- The settings: number, range, axis and first value of each, and what being in range means.
-use Rattle.std.specs.Prelude.{ℕ, Bool, false, cond, ◌&&◌, ◌||◌, List, [], ◌∷◌, ℤ, pos, negsuc, ◌≤ℤ◌, Some, None, Option, ◌==◌, int_le, nat_lt, slice_index_or}
+use Rattle.std.specs.Prelude.{ℕ, Bool, false, ◌&&◌, ◌||◌, List, [], ◌∷◌, ℤ, pos, negsuc, ◌≤ℤ◌, Some, None, Option, ◌==◌, int_le, slice_get, slice_index_or}
 use Rattle.std.specs.Option.{option_map}
 use Rattle.head.specs.declared.setting.Setting.{Setting}
 use Rattle.head.specs.declared.setting.Setting.TheVariants.{Power, Zoom, ZoomDrive, FocusMode, Focus, FocusDrive, WhiteBalance, RedGain, BlueGain, ExposureMode, Shutter, Iris, Gain, Bright, Freeze, Mute, Infrared, Identity, Pan, Tilt, PanDrive, TiltDrive}
@@ -54,7 +54,7 @@ all = Power ∷ Zoom ∷ ZoomDrive ∷ FocusMode ∷ Focus ∷ FocusDrive ∷ Wh
 
 -- the setting that has a number; none above 21
 abbrev pub numbered : ℕ → Option Setting
-numbered n = cond (nat_lt n 22) (Some (slice_index_or all n Power)) None
+numbered n = slice_get all n
 
 -- what looking at number n tells, where f has the values
 abbrev pub looked : (Setting → ℤ) → ℕ → Option ℤ

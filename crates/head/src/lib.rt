@@ -18,8 +18,8 @@ pub mod traits;
 
 pub use order::{Order, Paces};
 pub use outcome::{Ending, Endings, Refusal};
-pub use setting::{Axis, Range, Setting};
-pub use settings::Settings;
+pub use setting::{Axis, NoSuchSetting, Range, Setting};
+pub use settings::{OutOfRange, Settings};
 pub use start::admit;
 pub use target::{Target, Targets};
 pub use traits::{Head, Look};

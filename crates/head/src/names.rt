@@ -1,6 +1,7 @@
 //! What settings are called where people read them.
 
-use crate::setting::Setting;
+use crate::setting::{NoSuchSetting, Setting};
+use std::error::Error;
 use std::fmt;
 
 impl fmt::Display for Setting {
@@ -31,3 +32,11 @@ impl fmt::Display for Setting {
         })
     }
 }
+
+impl fmt::Display for NoSuchSetting {
+    fn fmt<W: fmt::Write>(&self, f: &mut fmt::Formatter<W>) -> fmt::Result {
+        write!(f, "no setting has number {}", self.0)
+    }
+}
+
+impl Error for NoSuchSetting {}

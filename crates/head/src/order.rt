@@ -6,7 +6,7 @@ ghost use Rattle.head.specs.Orders.{parts, different};
 use crate::target::Targets;
 
 /// How fast an order moves the positions that it names. 0 counts as 1.
-#[derive(Clone, Copy)]
+#[derive(Clone, Copy, Debug, PartialEq, Eq)]
 pub struct Paces {
     /// Of zoom and focus.
     pub lens: u8,
@@ -15,7 +15,7 @@ pub struct Paces {
 }
 
 /// One to four different settings, each with the value that it is to get, and the paces.
-#[derive(Clone, Copy)]
+#[derive(Clone, Copy, Debug, PartialEq, Eq)]
 pub struct Order {
     pub targets: Targets,
     pub paces: Paces,

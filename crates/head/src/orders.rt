@@ -24,12 +24,7 @@ impl Order {
     pub fn first(&self) -> Target
         ensures { result ≡ leading self.now.targets }
     {
-        match self.targets {
-            Targets::One(a)
-            | Targets::Two(a, _)
-            | Targets::Three(a, _, _)
-            | Targets::Four(a, _, _, _) => a,
-        }
+        self.targets.as_slice()[0]
     }
 
     /// The value that the setting is to get, if the order names it.
@@ -50,6 +45,6 @@ impl Order {
     pub fn meets(&self, other: &Order) -> bool
         ensures { result ≡ shares (parts self.now.targets) (parts other.now.targets) }
     {
-        self.targets.meet(other.targets)
+        self.targets.meet(&other.targets)
     }
 }

@@ -1,7 +1,7 @@
 //! The settings of a head by name, the four axes among them, and the kinds of ranges.
 
 /// One of the 22 settings, in the order of their numbers, 0 to 21.
-#[derive(Clone, Copy)]
+#[derive(Clone, Copy, Debug, PartialEq, Eq, PartialOrd, Ord, Hash)]
 pub enum Setting {
     Power,
     Zoom,
@@ -27,8 +27,12 @@ pub enum Setting {
     TiltDrive,
 }
 
+/// A number that no setting has.
+#[derive(Clone, Copy, Debug, PartialEq, Eq)]
+pub struct NoSuchSetting(pub u8);
+
 /// What moves: an axis has a position and a drive, each a setting.
-#[derive(Clone, Copy)]
+#[derive(Clone, Copy, Debug, PartialEq, Eq, PartialOrd, Ord, Hash)]
 pub enum Axis {
     Zoom,
     Focus,
@@ -37,7 +41,7 @@ pub enum Axis {
 }
 
 /// The values that a setting may have.
-#[derive(Clone, Copy)]
+#[derive(Clone, Copy, Debug, PartialEq, Eq)]
 pub enum Range {
     /// 2 on, 3 off; of the focus mode, 2 auto and 3 manual.
     Switch,

@@ -1,13 +1,27 @@
 //! The values of all settings, each in its range.
 
-ghost use Rattle.std.specs.Prelude.{◌≡◌, true, ◌&&◌, ℤ, if◌then◌else◌};
+ghost use Rattle.std.specs.Prelude.{◌≡◌, true, ◌&&◌, ℤ, if◌then◌else◌, is_ok};
 ghost use Rattle.head.specs.declared.setting.Setting.{Setting as S};
 ghost use Rattle.head.specs.Settings.{about, same, in_range, value_in};
 
 use crate::setting::Setting;
+use std::error::Error;
+use std::fmt;
+
+/// A value that its setting may not have.
+#[derive(Clone, Copy, Debug, PartialEq, Eq)]
+pub struct OutOfRange;
+
+impl fmt::Display for OutOfRange {
+    fn fmt<W: fmt::Write>(&self, f: &mut fmt::Formatter<W>) -> fmt::Result {
+        f.write_str("the value is out of the range of its setting")
+    }
+}
+
+impl Error for OutOfRange {}
 
 /// A value in range for each of the 22 settings.
-#[derive(Clone, Copy)]
+#[derive(Clone, Copy, Debug, PartialEq, Eq)]
 pub struct Settings {
     values: [i32; 22],
     ghost ranged: { (s : S) → in_range s (value_in values s) ≡ true },
@@ -20,30 +34,7 @@ impl Settings {
         ensures { (s : S) → value_in result.values s ≡ (about s).first }
     {
         Settings {
-            values: [
-                2, // power
-                0, // zoom
-                0, // zoom drive
-                2, // focus mode
-                0, // focus
-                0, // focus drive
-                0, // white balance
-                0, // red gain
-                0, // blue gain
-                0, // exposure mode
-                0, // shutter
-                0, // iris
-                0, // gain
-                0, // bright
-                3, // freeze
-                3, // mute
-                3, // infrared
-                0, // identity
-                0, // pan
-                0, // tilt
-                0, // pan drive
-                0, // tilt drive
-            ],
+            values: Setting::ALL.map(Setting::first),
         }
     }
 
@@ -51,19 +42,19 @@ impl Settings {
     pub fn get(&self, setting: Setting) -> i32
         ensures { result ≡ value_in self.now.values setting }
     {
-        let n = setting.number();
-        self.values[n as usize]
+        let n = usize::from(setting.number());
+        self.values[n]
     }
 
     /// Gives a setting a value of its range; a value out of it is refused, and changes nothing.
-    pub fn set(&mut self, setting: Setting, value: i32) -> bool
-        ensures taken { result ≡ in_range setting value }
-        ensures values { (s : S) → value_in self.new.values s ≡ (if result && same s setting then value else value_in self.old.values s) }
+    pub fn set(&mut self, setting: Setting, value: i32) -> Result<(), OutOfRange>
+        ensures taken { is_ok result ≡ in_range setting value }
+        ensures values { (s : S) → value_in self.new.values s ≡ (if is_ok result && same s setting then value else value_in self.old.values s) }
     {
         if !setting.admits(value) {
-            return false;
+            return Err(OutOfRange);
         }
-        self.values[setting.number() as usize] = value;
-        true
+        self.values[usize::from(setting.number())] = value;
+        Ok(())
     }
 }

@@ -1,20 +1,10 @@
 //! Whether a head can start an order: the five reasons against it, first to last.
 
 ghost use Rattle.std.specs.Prelude.{◌≡◌};
-ghost use Rattle.head.specs.Meaning.{answered, in_use, reason};
+ghost use Rattle.head.specs.Meaning.{answered, reason};
 
 use crate::order::Order;
 use crate::outcome::Refusal;
-
-// Whether the order held, if any, names a setting of this one.
-fn shared(held: Option<Order>, order: Order) -> bool
-    ensures { result ≡ in_use held order }
-{
-    match held {
-        Some(held) => order.meets(&held),
-        None => false,
-    }
-}
 
 /// Turns an order down for a slot with the first reason that fits, by whether there is pan and
 /// tilt and by the orders that the two slots hold.
@@ -33,16 +23,14 @@ pub fn admit(
         _ => return Err(Refusal::NoSuchSlot),
     };
     if own.is_some() {
-        return Err(Refusal::SlotBusy);
+        Err(Refusal::SlotBusy)
+    } else if !order.targets.in_range() {
+        Err(Refusal::OutOfRange)
+    } else if !pan_tilt && order.needs_pan_tilt() {
+        Err(Refusal::NoPanTilt)
+    } else if other.is_some_and(|held| order.meets(&held)) {
+        Err(Refusal::SettingInUse)
+    } else {
+        Ok(())
     }
-    if !order.targets.in_range() {
-        return Err(Refusal::OutOfRange);
-    }
-    if !pan_tilt && order.needs_pan_tilt() {
-        return Err(Refusal::NoPanTilt);
-    }
-    if shared(other, order) {
-        return Err(Refusal::SettingInUse);
-    }
-    Ok(())
 }

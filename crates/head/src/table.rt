@@ -1,57 +1,44 @@
 //! The table of settings: the number of each, its range, and the axes.
 
 ghost use Rattle.std.specs.Prelude.{◌≡◌, ◌<◌};
-ghost use Rattle.head.specs.Settings.{about, number as number_of, numbered, same, within, in_range, position as position_of, drive as drive_of};
+ghost use Rattle.std.specs.Option.{ok_or};
+ghost use Rattle.head.specs.Settings.{about, number as number_of, numbered, within, in_range, position as position_of, drive as drive_of};
 
-use crate::setting::{Axis, Range, Setting};
-
-/// How many settings there are.
-pub const COUNT: u8 = 22;
-
-/// The settings by number.
-pub const ALL: [Setting; 22] = [
-    Setting::Power,
-    Setting::Zoom,
-    Setting::ZoomDrive,
-    Setting::FocusMode,
-    Setting::Focus,
-    Setting::FocusDrive,
-    Setting::WhiteBalance,
-    Setting::RedGain,
-    Setting::BlueGain,
-    Setting::ExposureMode,
-    Setting::Shutter,
-    Setting::Iris,
-    Setting::Gain,
-    Setting::Bright,
-    Setting::Freeze,
-    Setting::Mute,
-    Setting::Infrared,
-    Setting::Identity,
-    Setting::Pan,
-    Setting::Tilt,
-    Setting::PanDrive,
-    Setting::TiltDrive,
-];
+use crate::setting::{Axis, NoSuchSetting, Range, Setting};
 
 impl Setting {
+    /// The settings by number.
+    pub const ALL: [Setting; 22] = [
+        Setting::Power,
+        Setting::Zoom,
+        Setting::ZoomDrive,
+        Setting::FocusMode,
+        Setting::Focus,
+        Setting::FocusDrive,
+        Setting::WhiteBalance,
+        Setting::RedGain,
+        Setting::BlueGain,
+        Setting::ExposureMode,
+        Setting::Shutter,
+        Setting::Iris,
+        Setting::Gain,
+        Setting::Bright,
+        Setting::Freeze,
+        Setting::Mute,
+        Setting::Infrared,
+        Setting::Identity,
+        Setting::Pan,
+        Setting::Tilt,
+        Setting::PanDrive,
+        Setting::TiltDrive,
+    ];
+
     /// The setting's number, 0 to 21.
     pub fn number(self) -> u8
         ensures is { result ≡ number_of self }
         ensures below { result < 22 }
     {
         self as u8
-    }
-
-    /// The setting with this number; there is none above 21.
-    pub fn from_number(n: u8) -> Option<Setting>
-        ensures { result ≡ numbered n }
-    {
-        if n < COUNT {
-            Some(ALL[n as usize])
-        } else {
-            None
-        }
     }
 
     /// The values that the setting may have.
@@ -83,10 +70,22 @@ impl Setting {
     }
 
     /// Whether the setting may have this value.
+    #[tactic(auto, unfolding(crate::specs::Settings::in_range))]
     pub fn admits(self, value: i32) -> bool
         ensures { result ≡ in_range self value }
     {
         self.range().contains(value)
+    }
+
+    /// The value with which our heads are made.
+    pub(crate) fn first(self) -> i32
+        ensures { result ≡ (about self).first }
+    {
+        match self {
+            Setting::Power | Setting::FocusMode => 2,
+            Setting::Freeze | Setting::Mute | Setting::Infrared => 3,
+            _ => 0,
+        }
     }
 
     /// The axis whose position this is.
@@ -101,12 +100,19 @@ impl Setting {
             _ => None,
         }
     }
+}
 
-    /// Whether both are the same setting.
-    pub(crate) fn is(self, other: Setting) -> bool
-        ensures { result ≡ same self other }
-    {
-        self.number() == other.number()
+impl TryFrom<u8> for Setting {
+    type Error = NoSuchSetting;
+
+    ghost try_from_gives = { λ n r. r ≡ ok_or (numbered n) (record { 0 = n }) };
+
+    /// The setting with this number; there is none above 21.
+    fn try_from(number: u8) -> Result<Setting, NoSuchSetting> {
+        Setting::ALL
+            .get(usize::from(number))
+            .copied()
+            .ok_or(NoSuchSetting(number))
     }
 }
 
@@ -119,12 +125,15 @@ impl Range {
             Range::Switch => matches!(value, 2 | 3),
             Range::WhiteBalance => matches!(value, 0 | 1 | 2 | 3 | 5),
             Range::Exposure => matches!(value, 0 | 3 | 10 | 11 | 13),
-            Range::Span(low, high) => low <= value && value <= high,
+            Range::Span(low, high) => (low..=high).contains(&value),
         }
     }
 }
 
 impl Axis {
+    /// The axes, each once.
+    pub const ALL: [Axis; 4] = [Axis::Zoom, Axis::Focus, Axis::Pan, Axis::Tilt];
+
     /// The setting that tells where the axis stands.
     pub fn position(self) -> Setting
         ensures { result ≡ position_of self }

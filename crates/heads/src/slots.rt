@@ -32,10 +32,9 @@ impl Rig {
     pub(crate) fn look(&self, number: u8) -> Option<i32>
         ensures { result ≡ looked (value_of self.now.settings) number }
     {
-        match Setting::from_number(number) {
-            Some(setting) => Some(self.settings.get(setting)),
-            None => None,
-        }
+        Setting::try_from(number)
+            .ok()
+            .map(|setting| self.settings.get(setting))
     }
 
     /// The ticks left of a slot.

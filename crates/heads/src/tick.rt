@@ -11,7 +11,6 @@ use crate::job::Job;
 use crate::motion::{Motion, driven, moved};
 use crate::rig::Rig;
 use crate::slot::rest;
-use head::table::ALL;
 use head::{Axis, Ending, Endings, Order, Setting, Settings};
 
 // Whether this tick takes the axis to its target, if the order names its position.
@@ -111,8 +110,9 @@ impl Rig {
         ensures { (s : S) → value_of result s ≡ next_by motion (slots_of self.now) endings (value_of self.now.settings) s }
     {
         let mut settings = self.settings;
-        for setting in ALL {
-            settings.set(setting, self.next(motion, endings, setting));
+        for setting in Setting::ALL {
+            // it is never out of range
+            let _ = settings.set(setting, self.next(motion, endings, setting));
         }
         settings
     }

@@ -63,7 +63,7 @@ unfoldable pub ranged : Targets → Paces → Option Order
 ranged ts p = cond (all_in_range (parts ts)) (made ts p) None
 
 abbrev pub digit : Setting → ℕ → Option Order
-digit s p = cond (nat_lt p 16) (ranged (One (to s (pos p))) (paces 0 0 0)) None
+digit s p = cond (nat_lt p 16) (ranged (One (to s (pos p) ∷ [])) (paces 0 0 0)) None
 
 -- 00, 02, 03, 2p and 3p, with p from 0 to 7
 abbrev pub pushed : ℕ → Option ℤ
@@ -80,19 +80,19 @@ turned Up d = d
 turned Down d = neg_ℤ d
 
 abbrev pub driven : Sense → Setting → ℕ → Option Order
-driven e s b = bind (pushed b) (λ d. ranged (One (to s (turned e d))) (paces 0 0 0))
+driven e s b = bind (pushed b) (λ d. ranged (One (to s (turned e d) ∷ [])) (paces 0 0 0))
 
 abbrev pub placed : Axis → ℕ → ℕ → ℕ → ℕ → ℕ → Option Order
-placed a lens p q r s = bind (word p q r s) (λ n. ranged (Two (to (position a) (pos n)) (to (drive a) (pos 0))) (paces lens 0 0))
+placed a lens p q r s = bind (word p q r s) (λ n. ranged (Two (to (position a) (pos n) ∷ to (drive a) (pos 0) ∷ [])) (paces lens 0 0))
 
 abbrev pub placed_at : Axis → ℕ → ℕ → ℕ → ℕ → ℕ → Option Order
 placed_at a n p q r s = cond (nat_le n 7) (placed a (n + 1) p q r s) None
 
 abbrev pub level : Setting → ℕ → ℕ → ℕ → ℕ → Option Order
-level s y z p q = cond (y == 0 && z == 0 && nat_lt p 16 && nat_lt q 16) (ranged (One (to s (pos (p * 16 + q)))) (paces 0 0 0)) None
+level s y z p q = cond (y == 0 && z == 0 && nat_lt p 16 && nat_lt q 16) (ranged (One (to s (pos (p * 16 + q)) ∷ [])) (paces 0 0 0)) None
 
 abbrev pub number : Setting → ℕ → ℕ → ℕ → ℕ → Option Order
-number s p q r t = bind (word p q r t) (λ n. ranged (One (to s (pos n))) (paces 0 0 0))
+number s p q r t = bind (word p q r t) (λ n. ranged (One (to s (pos n) ∷ [])) (paces 0 0 0))
 
 -- VV from 01 to 18, WW from 01 to 14
 abbrev pub paced : ℕ → ℕ → Bool
@@ -105,11 +105,11 @@ steered e d n = cond (d == 1) (Some (turned e (neg_ℤ (pos n)))) (cond (d == 2)
 abbrev pub pan_tilt_driven : ℕ → ℕ → ℕ → ℕ → Option Order
 pan_tilt_driven v w d e =
     cond (paced v w)
-    (bind (steered Up d v) (λ x. bind (steered Down e w) (λ y. ranged (Two (to PanDrive x) (to TiltDrive y)) (paces 0 v w))))
+    (bind (steered Up d v) (λ x. bind (steered Down e w) (λ y. ranged (Two (to PanDrive x ∷ to TiltDrive y ∷ [])) (paces 0 v w))))
     None
 
 abbrev pub pan_tilt : ℕ → ℕ → ℤ → ℤ → Option Order
-pan_tilt v w x y = ranged (Four (to Pan x) (to Tilt y) (to PanDrive (pos 0)) (to TiltDrive (pos 0))) (paces 0 v w)
+pan_tilt v w x y = ranged (Four (to Pan x ∷ to Tilt y ∷ to PanDrive (pos 0) ∷ to TiltDrive (pos 0) ∷ [])) (paces 0 v w)
 
 abbrev pub pan_tilt_placed : ℕ → ℕ → ℕ → ℕ → ℕ → ℕ → ℕ → ℕ → ℕ → ℕ → Option Order
 pan_tilt_placed v w a b c d e f g h =

@@ -41,7 +41,7 @@ fn digit(setting: Setting, p: u8) -> Option<Order>
     if p > 15 {
         return None;
     }
-    ranged(Targets::One(at(setting, p as u16)), STILL)
+    ranged(Targets::One([at(setting, p as u16)]), STILL)
 }
 
 // What a drive's operand asks for, where up is up.
@@ -72,7 +72,7 @@ fn driven(sense: Sense, setting: Setting, b: u8) -> Option<Order>
     ensures { result ≡ driven_by sense setting b }
 {
     let value = turned(sense, pushed(b)?);
-    ranged(Targets::One(Target { setting, value }), STILL)
+    ranged(Targets::One([Target { setting, value }]), STILL)
 }
 
 fn placed(axis: Axis, lens: u8, p: u8, q: u8, r: u8, s: u8) -> Option<Order>
@@ -85,7 +85,7 @@ fn placed(axis: Axis, lens: u8, p: u8, q: u8, r: u8, s: u8) -> Option<Order>
         tilt: 0,
     };
     ranged(
-        Targets::Two(at(axis.position(), n), at(axis.drive(), 0)),
+        Targets::Two([at(axis.position(), n), at(axis.drive(), 0)]),
         paces,
     )
 }
@@ -105,14 +105,14 @@ fn level(setting: Setting, y: u8, z: u8, p: u8, q: u8) -> Option<Order>
     if y != 0 || z != 0 || p > 15 || q > 15 {
         return None;
     }
-    ranged(Targets::One(at(setting, p as u16 * 16 + q as u16)), STILL)
+    ranged(Targets::One([at(setting, p as u16 * 16 + q as u16)]), STILL)
 }
 
 fn number(setting: Setting, p: u8, q: u8, r: u8, s: u8) -> Option<Order>
     ensures { result ≡ number_by setting p q r s }
 {
     let n = word(p, q, r, s)?;
-    ranged(Targets::One(at(setting, n)), STILL)
+    ranged(Targets::One([at(setting, n)]), STILL)
 }
 
 fn paced(pan: u8, tilt: u8) -> bool
@@ -152,7 +152,7 @@ fn pan_tilt_driven(v: u8, w: u8, d: u8, e: u8) -> Option<Order>
         pan: v,
         tilt: w,
     };
-    ranged(Targets::Two(pan, tilt), paces)
+    ranged(Targets::Two([pan, tilt]), paces)
 }
 
 fn pan_tilt(v: u8, w: u8, x: i32, y: i32) -> Option<Order>
@@ -172,12 +172,12 @@ fn pan_tilt(v: u8, w: u8, x: i32, y: i32) -> Option<Order>
         tilt: w,
     };
     ranged(
-        Targets::Four(
+        Targets::Four([
             pan,
             tilt,
             at(Setting::PanDrive, 0),
             at(Setting::TiltDrive, 0),
-        ),
+        ]),
         paces,
     )
 }

@@ -1,4 +1,4 @@
-use Rattle.std.proofs.Common.{◌≡◌, true, get_or, ℤ, sym, ◌∙◌, subst, arith, w32, SFits, to_z, of_z, rules}
+use Rattle.std.proofs.Common.{is_ok, ◌≡◌, true, get_or, ℤ, sym, ◌∙◌, subst, arith, w32, SFits, to_z, of_z, rules}
 use Rattle.std.proofs.lemmas.Int.{to_z-of_z}
 use Rattle.head.specs.declared.setting.Setting.TheVariants.{Power}
 use Rattle.head.specs.Settings.{all, in_range}
@@ -18,7 +18,7 @@ loop-setting-preserved c =
     let v : to_z w32 (of_z w32 c.next.result) ≡ next c.args.motion (slots_of rig) c.args.endings (value_of rig.settings) x = to_z-of_z w32 c.next.result f ∙ c.next.ensures in
     let t = c.set.ensures.taken
     ∙ subst (λ (w : ℤ). in_range x w ≡ true) (sym v) (next_in_range c.args.motion rig.one rig.two c.args.endings (value_of rig.settings) x (rig.settings.ranged x)) in
-    passed_more k x c.set.result (to_z w32 (of_z w32 c.next.result)) (value_of c.loop-setting.settings) (value_of c.set.new.self)
+    passed_more k x (is_ok c.set.result) (to_z w32 (of_z w32 c.next.result)) (value_of c.loop-setting.settings) (value_of c.set.new.self)
     (next c.args.motion (slots_of rig) c.args.endings (value_of rig.settings))
     (number_at k c.loop-setting-test.true) t v c.set.ensures.values c.loop-setting.invariant
 
