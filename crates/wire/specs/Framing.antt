@@ -1,6 +1,8 @@
 -- Framing: what each byte makes of what stands before it.
 use Rattle.std.specs.Prelude.{ℕ, cond, List, [], ◌∷◌, ◌++◌, length, take, Some, None, Ok, Err, Option, Result, ◌==◌}
 use Rattle.wire.specs.declared.fault.FaultCode.{FaultCode}
+use Rattle.wire.specs.declared.fault.Layer.{Layer}
+use Rattle.wire.specs.declared.fault.Layer.TheVariants as layer
 use Rattle.wire.specs.declared.framer.Framer.{Framer}
 use Rattle.wire.specs.declared.framer.FramingFault.{FramingFault}
 use Rattle.wire.specs.declared.framer.FramingFault.TheVariants.{NoHeader, NoBody, Overlong}
@@ -33,14 +35,21 @@ event (begun bs) b =
     (cond (length bs == 15) (Err Overlong) (Ok None))
 event skipping b = Ok None
 
+-- the layers by number
+abbrev pub number_of : Layer → ℕ
+number_of layer.Call = 0
+number_of layer.Framing = 1
+number_of layer.Packet = 2
+number_of layer.Row = 3
+
 -- each fault's number, layer and place
-abbrev pub code : ℕ → ℕ → ℕ → FaultCode
+abbrev pub code : ℕ → Layer → ℕ → FaultCode
 code n l p = record { number = n; layer = l; place = p }
 
 abbrev pub code_of : FramingFault → FaultCode
-code_of NoHeader = code 2 1 0
-code_of NoBody = code 3 1 1
-code_of Overlong = code 4 1 15
+code_of NoHeader = code 2 layer.Framing 0
+code_of NoBody = code 3 layer.Framing 1
+code_of Overlong = code 4 layer.Framing 15
 
 -- The framer and its packets, as the definitions above speak of them.
 

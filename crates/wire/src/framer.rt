@@ -21,7 +21,7 @@ ghost use Rattle.wire.specs.States.{sound};
 ///
 /// Idle: no packet is begun. Begun: the bytes so far are kept. Skipping: the rest of a packet that
 /// is too long is let go by, its FF too.
-#[derive(Clone, Copy)]
+#[derive(Clone, Copy, Debug, PartialEq, Eq)]
 pub enum State {
     Idle,
     Begun,
@@ -29,7 +29,7 @@ pub enum State {
 }
 
 /// What is wrong with a byte; the packet that it belongs to is dropped.
-#[derive(Clone, Copy)]
+#[derive(Clone, Copy, Debug, PartialEq, Eq)]
 pub enum FramingFault {
     /// Fault 2: no packet is begun, and the byte is no header.
     NoHeader,
@@ -40,7 +40,7 @@ pub enum FramingFault {
 }
 
 /// Makes packets of bytes, one byte at a time.
-#[derive(Drop)]
+#[derive(Debug, Drop)]
 pub struct Framer {
     pub(crate) state: State,
     pub(crate) bytes: [u8; 16],

@@ -4,7 +4,7 @@ ghost use Rattle.std.specs.Prelude.{◌≡◌, ◌≤◌, true, take};
 ghost use Rattle.wire.specs.Packets.{is_packet};
 
 /// The bytes of a whole packet, and nothing else: no value of this type is otherwise.
-#[derive(Clone, Copy)]
+#[derive(Clone, Copy, Debug, PartialEq, Eq)]
 pub struct Packet {
     pub(crate) bytes: [u8; 16],
     pub(crate) len: usize,
