@@ -5,6 +5,7 @@
 
 #![tactic(auto)]
 
+mod bytes;
 mod fault;
 mod feed;
 mod framer;
