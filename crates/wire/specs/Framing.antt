@@ -1,5 +1,5 @@
 -- Framing: what each byte makes of what stands before it.
-use Rattle.std.specs.Prelude.{ℕ, cond, List, [], ◌∷◌, ◌++◌, length, take, Some, None, Ok, Err, Option, Result, ◌==◌}
+use Rattle.std.specs.Prelude.{ℕ, cond, List, [], ◌∷◌, ◌++◌, length, Some, None, Ok, Err, Option, Result, ◌==◌}
 use Rattle.wire.specs.declared.fault.FaultCode.{FaultCode}
 use Rattle.wire.specs.declared.fault.Layer.{Layer}
 use Rattle.wire.specs.declared.fault.Layer.TheVariants as layer
@@ -54,15 +54,15 @@ code_of Overlong = code 4 layer.Framing 15
 -- The framer and its packets, as the definitions above speak of them.
 
 abbrev pub bytes_of : Packet → List ℕ
-bytes_of p = take p.len p.bytes
+bytes_of p = p.bytes
 
-abbrev held_by : State → List ℕ → Held
-held_by Idle bs = none
-held_by Begun bs = begun bs
-held_by Skipping bs = skipping
+abbrev held_by : State → Held
+held_by Idle = none
+held_by (Begun bs) = begun bs
+held_by Skipping = skipping
 
 abbrev pub held : Framer → Held
-held f = held_by f.state (take f.len f.bytes)
+held f = held_by f.state
 
 abbrev pub told : Result (Option Packet) FramingFault → Event
 told (Ok None) = Ok None

@@ -1,7 +1,9 @@
 //! Where the framer stands between bytes, and what it finds wrong.
 
-ghost use Rattle.std.specs.Prelude.{◌≡◌, ◌≤◌, Bool, true, take};
+ghost use Rattle.std.specs.Prelude.{◌≡◌, true};
 ghost use Rattle.wire.specs.States.{sound};
+
+use crate::bytes::Bytes;
 
 /// Between bytes.
 ///
@@ -22,9 +24,9 @@ ghost use Rattle.wire.specs.States.{sound};
 /// Idle: no packet is begun. Begun: the bytes so far are kept. Skipping: the rest of a packet that
 /// is too long is let go by, its FF too.
 #[derive(Clone, Copy, Debug, PartialEq, Eq)]
-pub enum State {
+pub(crate) enum State {
     Idle,
-    Begun,
+    Begun(Bytes),
     Skipping,
 }
 
@@ -43,8 +45,5 @@ pub enum FramingFault {
 #[derive(Debug, Drop)]
 pub struct Framer {
     pub(crate) state: State,
-    pub(crate) bytes: [u8; 16],
-    pub(crate) len: usize,
-    ghost room: { len ≤ 15 },
-    ghost kept: { sound state (take len bytes) ≡ true },
+    ghost kept: { sound state ≡ true },
 }
