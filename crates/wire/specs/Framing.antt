@@ -3,11 +3,8 @@ use Rattle.std.specs.Prelude.{ℕ, cond, List, [], ◌∷◌, ◌++◌, length, 
 use Rattle.wire.specs.declared.fault.FaultCode.{FaultCode}
 use Rattle.wire.specs.declared.fault.Layer.{Layer}
 use Rattle.wire.specs.declared.fault.Layer.TheVariants as layer
-use Rattle.wire.specs.declared.framer.Framer.{Framer}
 use Rattle.wire.specs.declared.framer.FramingFault.{FramingFault}
 use Rattle.wire.specs.declared.framer.FramingFault.TheVariants.{NoHeader, NoBody, Overlong}
-use Rattle.wire.specs.declared.framer.State.{State}
-use Rattle.wire.specs.declared.framer.State.TheVariants.{Idle, Begun, Skipping}
 use Rattle.wire.specs.declared.packet.Packet.{Packet}
 use Rattle.wire.specs.Packets.{is_header}
 
@@ -51,18 +48,10 @@ code_of NoHeader = code 2 layer.Framing 0
 code_of NoBody = code 3 layer.Framing 1
 code_of Overlong = code 4 layer.Framing 15
 
--- The framer and its packets, as the definitions above speak of them.
+-- Packets, as the definitions above speak of them.
 
 abbrev pub bytes_of : Packet → List ℕ
 bytes_of p = p.bytes
-
-abbrev held_by : State → Held
-held_by Idle = none
-held_by (Begun bs) = begun bs
-held_by Skipping = skipping
-
-abbrev pub held : Framer → Held
-held f = held_by f.state
 
 abbrev pub told : Result (Option Packet) FramingFault → Event
 told (Ok None) = Ok None

@@ -1,7 +1,7 @@
 //! What the framer makes of each byte.
 
 ghost use Rattle.std.specs.Prelude.{◌≡◌};
-ghost use Rattle.wire.specs.Framing.{none, held, next, event, told};
+ghost use Rattle.wire.specs.Framing.{none, next, event, told};
 
 use crate::bytes::Bytes;
 use crate::framer::{Framer, FramingFault, State};
@@ -10,7 +10,7 @@ use crate::packet::Packet;
 impl Framer {
     /// A framer with no packet begun.
     pub fn new() -> Framer
-        ensures { held result ≡ none }
+        ensures { result ≡ none }
     {
         Framer { state: State::Idle }
     }
@@ -18,8 +18,8 @@ impl Framer {
     /// Takes one byte: it may make a packet whole, or be at fault.
     #[tactic(auto, using(crate::proofs::Forms::begun_more, crate::proofs::Forms::begun_whole))]
     pub fn feed(&mut self, byte: u8) -> Result<Option<Packet>, FramingFault>
-        ensures state { held self.new ≡ next (held self.old) byte }
-        ensures event { told result ≡ event (held self.old) byte }
+        ensures state { self.new ≡ next self.old byte }
+        ensures event { told result ≡ event self.old byte }
     {
         match (&mut self.state, byte) {
             (State::Idle, 0x80..=0xfe) => {

@@ -1,9 +1,7 @@
 //! Where the framer stands between bytes, and what it finds wrong.
 
-ghost use Rattle.std.specs.Prelude.{◌≡◌, true};
-ghost use Rattle.wire.specs.States.{sound};
-
 use crate::bytes::Bytes;
+use std::marker::Model;
 
 /// Between bytes.
 ///
@@ -45,5 +43,16 @@ pub enum FramingFault {
 #[derive(Debug, Drop)]
 pub struct Framer {
     pub(crate) state: State,
-    ghost kept: { sound state ≡ true },
+}
+
+impl Model for Framer {
+    ghost use Rattle.std.specs.Prelude.{◌≡◌, true};
+    ghost use Rattle.wire.specs.Framing.{Held};
+    ghost use Rattle.wire.specs.States.{held, sound};
+
+    ghost Value = { Held };
+
+    ghost view = { λ f. held f.state };
+
+    ghost invariant = { λ f. sound f.state ≡ true };
 }
