@@ -21,7 +21,7 @@ impl Answer {
     pub fn new(res: Result<usize, Fault>, buffer: [u8; 64]) -> Answer {
         let (fault, count) = match res {
             Ok(count) => (None, count),
-            Err(fault) => (Some(fault.code()), fault.sent),
+            Err(fault) => (Some(fault.into()), fault.sent),
         };
         Answer {
             fault,
@@ -40,7 +40,7 @@ impl fmt::Display for Answer {
     fn fmt<W: fmt::Write>(&self, f: &mut fmt::Formatter<W>) -> fmt::Result {
         if let Some(code) = self.fault {
             let number = code.number;
-            let layer = code.layer;
+            let layer = u8::from(code.layer);
             let place = code.place;
             write!(f, "fault {number} layer {layer} place {place} ")?;
         }

@@ -6,10 +6,11 @@ use Rattle.end.specs.declared.fault.Fault.{Fault}
 use Rattle.rows.specs.Requests as packets
 use Rattle.wire.specs.declared.fault.FaultCode.{FaultCode}
 use Rattle.wire.specs.declared.framer.FramingFault.{FramingFault}
+use Rattle.wire.specs.declared.fault.Layer.TheVariants as layer
 use Rattle.wire.specs.Framing as framing
 
 abbrev pub code_of : Cause → FaultCode
-code_of ShortBuffer = framing.code 1 0 0
+code_of ShortBuffer = framing.code 1 layer.Call 0
 code_of (Framing f) = framing.code_of f
 code_of (Packet f) = packets.code_of f
 

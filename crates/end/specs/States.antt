@@ -7,7 +7,7 @@ use Rattle.head.specs.declared.traits.Head.{Ghosts as HeadGhosts}
 use Rattle.head.specs.declared.traits.Look.{Ghosts as LookGhosts}
 use Rattle.head.specs.Meaning as head
 use Rattle.head.specs.Settings.{in_range}
-use Rattle.wire.specs.Framing.{Held, held}
+use Rattle.wire.specs.Framing.{Held}
 
 pub record State : Type 0 where
   -- what the head means: settings, pan and tilt, slots
@@ -23,4 +23,4 @@ pub record InRange (s : State) : Type 0 where
   pub each : (t : Setting) → in_range t (s.head.setting t) ≡ true
 
 abbrev pub view : {H : Type 0} {h : HeadGhosts H} {l : LookGhosts H} → (H → Setting → ℤ) → (H → Bool) → (H → head.Slots) → End H h l → State
-view f p g e = record { head = head.view f p g e.head; address = e.address; held = held e.framer; sockets = e.sockets }
+view f p g e = record { head = head.view f p g e.head; address = e.address; held = e.framer; sockets = e.sockets }

@@ -4,7 +4,7 @@ ghost use Rattle.std.specs.Prelude.{◌≡◌};
 ghost use Rattle.end.specs.Faults.{code_of, count, without_reply};
 
 use rows::PacketFault;
-use wire::{FaultCode, FramingFault};
+use wire::{FaultCode, FramingFault, Layer};
 
 /// What is wrong, by the layer that finds it.
 #[derive(Clone, Copy)]
@@ -35,19 +35,19 @@ impl From<FramingFault> for Fault {
     }
 }
 
-impl Fault {
-    /// Number, layer and place; those of a lower layer are passed on whole.
-    pub fn code(self) -> FaultCode
-        ensures { result ≡ code_of self.cause }
-    {
-        match self.cause {
+// The fault of a lower layer is passed on whole.
+impl From<Fault> for FaultCode {
+    ghost from_gives = { λ fault code. code ≡ code_of fault.cause };
+
+    fn from(fault: Fault) -> FaultCode {
+        match fault.cause {
             Cause::ShortBuffer => FaultCode {
                 number: 1,
-                layer: 0,
+                layer: Layer::Call,
                 place: 0,
             },
-            Cause::Framing(fault) => fault.code(),
-            Cause::Packet(fault) => fault.code(),
+            Cause::Framing(fault) => fault.into(),
+            Cause::Packet(fault) => fault.into(),
         }
     }
 }

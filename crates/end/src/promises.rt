@@ -5,23 +5,17 @@ ghost use Rattle.end.specs.Law.{SocketsAgreeInEveryRun};
 ghost use Rattle.end.specs.Promises.{ACancelIsNeverRefused, EveryAcknowledgedCommandIsEnded};
 
 /// In every run, over any head, the law holds after each call.
-pub fn sockets_agree_in_every_run() -> u8
+pub fn sockets_agree_in_every_run()
     ensures { SocketsAgreeInEveryRun }
-{
-    0
-}
+{}
 
 /// A cancel of an open socket is never refused: its ending is sent and the socket is closed.
-pub fn a_cancel_is_never_refused() -> u8
+pub fn a_cancel_is_never_refused()
     ensures { ACancelIsNeverRefused }
-{
-    0
-}
+{}
 
 /// An acknowledged command is ended, and its ending sent, within 1,000 accepted ticks, or the line
 /// was cleared or the address set anew.
-pub fn every_acknowledged_command_is_ended() -> u8
+pub fn every_acknowledged_command_is_ended()
     ensures { EveryAcknowledgedCommandIsEnded }
-{
-    0
-}
+{}

@@ -3,23 +3,17 @@
 ghost use Rattle.end.specs.Tried.{TriedExchangesHold, TheBookReadsRuns, TheLawExcludes};
 
 /// Each exchange of a table is, by the written rules, answered as the table says.
-pub fn tried_exchanges_hold() -> u8
+pub fn tried_exchanges_hold()
     ensures { TriedExchangesHold }
-{
-    0
-}
+{}
 
 /// After each run of a table, the book has what the table says.
-pub fn the_book_reads_runs() -> u8
+pub fn the_book_reads_runs()
     ensures { TheBookReadsRuns }
-{
-    0
-}
+{}
 
 /// The law does not let pass a second acknowledgement, an ending of no command, a thousand ticks, or
 /// a slot that holds another order than its socket's.
-pub fn the_law_excludes() -> u8
+pub fn the_law_excludes()
     ensures { TheLawExcludes }
-{
-    0
-}
+{}

@@ -46,7 +46,7 @@ pub fn framing_fault(rt: &impl Print, fault: FramingFault) -> io::Result<()> {
         FramingFault::NoBody => "no body between header and FF",
         FramingFault::Overlong => "more than 16 bytes, the rest is skipped",
     };
-    show_fault(rt, fault.code(), text)
+    show_fault(rt, fault.into(), text)
 }
 
 /// A fault of a body, in words.
@@ -56,5 +56,5 @@ pub fn packet_fault(rt: &impl Print, fault: PacketFault) -> io::Result<()> {
         PacketFault::Row(RowFault::NoSuchCode) => "no row has this category and code",
         PacketFault::Row(RowFault::NoSuchOperands) => "no row admits these operands",
     };
-    show_fault(rt, fault.code(), text)
+    show_fault(rt, fault.into(), text)
 }

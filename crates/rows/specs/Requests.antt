@@ -11,6 +11,7 @@ use Rattle.rows.specs.Commands.{read_command}
 use Rattle.rows.specs.Inquiries.{read_inquiry}
 use Rattle.rows.specs.Search as rows
 use Rattle.wire.specs.declared.fault.FaultCode.{FaultCode}
+use Rattle.wire.specs.declared.fault.Layer.TheVariants as layer
 use Rattle.wire.specs.Framing.{code}
 
 abbrev pub as_command : Result (ℕ × Order) RowFault → Result Request PacketFault
@@ -27,5 +28,5 @@ read_body (t ∷ rest) = cond (t == 0x01) (as_command (read_command rest)) (cond
 
 -- each fault's number, layer and place; a row's is passed on whole
 abbrev pub code_of : PacketFault → FaultCode
-code_of UnknownBody = code 5 2 1
+code_of UnknownBody = code 5 layer.Packet 1
 code_of (Row f) = rows.code_of f

@@ -3,6 +3,7 @@ use Rattle.std.specs.Prelude.{ℕ, suc, Bool, false, cond, ◌||◌, List, [], �
 use Rattle.rows.specs.declared.fault.RowFault.{RowFault}
 use Rattle.rows.specs.declared.fault.RowFault.TheVariants.{NoSuchCode, NoSuchOperands}
 use Rattle.wire.specs.declared.fault.FaultCode.{FaultCode}
+use Rattle.wire.specs.declared.fault.Layer.TheVariants as layer
 use Rattle.wire.specs.Framing.{code}
 
 -- what a row makes of a category, a code and operands, if it admits them
@@ -34,5 +35,5 @@ found has reads rows (k ∷ c ∷ os) = found_or (first_of (meaning has reads k 
 
 -- each fault's number, layer and place
 abbrev pub code_of : RowFault → FaultCode
-code_of NoSuchCode = code 6 3 2
-code_of NoSuchOperands = code 7 3 4
+code_of NoSuchCode = code 6 layer.Row 2
+code_of NoSuchOperands = code 7 layer.Row 4

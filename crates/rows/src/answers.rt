@@ -6,7 +6,7 @@ ghost use Rattle.rows.specs.Answers.{looked_digits, answered, pan_tilt_answered,
 use crate::digits::{bits, digits};
 use crate::inquiries::{Form, Inquiry};
 use head::{Look, Setting};
-use wire::send;
+use wire::send_at;
 
 // The digits of a setting's value.
 fn shown<L: Look>(from: &L, setting: Setting) -> [u8; 4]
@@ -24,11 +24,11 @@ fn answer_pan_tilt<L: Look>(from: &L, header: u8, out: &mut [u8]) -> Option<usiz
     ensures sent { out.new ≡ sent_into (pan_tilt_answered header (L.Look.setting from.now) (L.Look.pantilt from.now)) out.old }
 {
     if !from.has_pan_tilt() {
-        return send(out, &[header, 0x60, 0x41, 0xff]);
+        return send_at(out, 0, &[header, 0x60, 0x41, 0xff]);
     }
     let [a, b, c, d] = shown(from, Setting::Pan);
     let [e, f, g, h] = shown(from, Setting::Tilt);
-    send(out, &[header, 0x50, a, b, c, d, e, f, g, h, 0xff])
+    send_at(out, 0, &[header, 0x50, a, b, c, d, e, f, g, h, 0xff])
 }
 
 /// Puts the answer to an inquiry at the front of the buffer, behind the reply's header, and tells
@@ -39,9 +39,9 @@ pub fn answer<L: Look>(from: &L, inquiry: Inquiry, header: u8, out: &mut [u8]) -
 {
     let [p, q, r, s] = shown(from, inquiry.setting);
     match inquiry.form {
-        Form::Digit => send(out, &[header, 0x50, s, 0xff]),
-        Form::Level => send(out, &[header, 0x50, 0, 0, r, s, 0xff]),
-        Form::Number => send(out, &[header, 0x50, p, q, r, s, 0xff]),
+        Form::Digit => send_at(out, 0, &[header, 0x50, s, 0xff]),
+        Form::Level => send_at(out, 0, &[header, 0x50, 0, 0, r, s, 0xff]),
+        Form::Number => send_at(out, 0, &[header, 0x50, p, q, r, s, 0xff]),
         Form::PanTilt => answer_pan_tilt(from, header, out),
     }
 }

@@ -14,6 +14,7 @@ mod reading;
 mod request;
 mod row;
 pub mod tried;
+mod words;
 
 pub use answers::answer;
 pub use codes::Codes;

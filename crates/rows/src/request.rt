@@ -11,7 +11,7 @@ use crate::commands::read_command;
 use crate::fault::{PacketFault, RowFault};
 use crate::inquiries::{Inquiry, read_inquiry};
 use head::Order;
-use wire::FaultCode;
+use wire::{FaultCode, Layer};
 
 /// What a packet for this end asks for.
 #[derive(Clone, Copy)]
@@ -55,35 +55,34 @@ pub fn read(body: &[u8]) -> Result<Request, PacketFault>
     }
 }
 
-impl RowFault {
-    // Number, layer and place of the fault.
-    fn code(self) -> FaultCode
-        ensures { result ≡ row_code self }
-    {
-        let (number, place) = match self {
+impl From<RowFault> for FaultCode {
+    ghost from_gives = { λ fault code. code ≡ row_code fault };
+
+    fn from(fault: RowFault) -> FaultCode {
+        let (number, place) = match fault {
             RowFault::NoSuchCode => (6, 2),
             RowFault::NoSuchOperands => (7, 4),
         };
         FaultCode {
             number,
-            layer: 3,
+            layer: Layer::Row,
             place,
         }
     }
 }
 
-impl PacketFault {
-    /// Number, layer and place of the fault; a row's is passed on whole.
-    pub fn code(self) -> FaultCode
-        ensures { result ≡ packet_code self }
-    {
-        match self {
+// A row's fault is passed on whole.
+impl From<PacketFault> for FaultCode {
+    ghost from_gives = { λ fault code. code ≡ packet_code fault };
+
+    fn from(fault: PacketFault) -> FaultCode {
+        match fault {
             PacketFault::UnknownBody => FaultCode {
                 number: 5,
-                layer: 2,
+                layer: Layer::Packet,
                 place: 1,
             },
-            PacketFault::Row(fault) => fault.code(),
+            PacketFault::Row(fault) => fault.into(),
         }
     }
 }

@@ -3,8 +3,6 @@
 ghost use Rattle.rows.specs.Tried.{TriedPacketsHold};
 
 /// Each packet of a table is, by the written rules, what the table says of it.
-pub fn tried_packets_hold() -> u8
+pub fn tried_packets_hold()
     ensures { TriedPacketsHold }
-{
-    0
-}
+{}

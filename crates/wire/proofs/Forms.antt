@@ -1,6 +1,9 @@
 -- What is known of the bytes of a packet, begun or whole.
-use Rattle.std.proofs.Common.{◌≡◌, ℕ, ◌+◌, ◌≤◌, true, false, not, ◌&&◌, eqb, leb, List, [], ◌∷◌, ◌++◌, length, refl, arith, length-append}
-use Rattle.std.proofs.lemmas.Bool.{and_parts, and_from, leb-true, le-leb, not_from_false}
+use Rattle.std.proofs.Common.{◌≡◌, ◌≢◌, ℕ, ◌+◌, ◌≤◌, true, false, not, ◌&&◌, eqb, leb, List, [], ◌∷◌, ◌++◌, length, refl, arith, length-append}
+use Rattle.std.proofs.lemmas.Bool.{and_parts, and_from, leb-true, le-leb, not_from_false, ne_eqb}
+use Rattle.wire.specs.declared.framer.State.{State}
+use Rattle.wire.specs.declared.framer.State.TheVariants.{Begun}
+use Rattle.wire.specs.States.{sound}
 use Rattle.wire.specs.Packets.{is_header, no_end, opens, closes, is_packet}
 
 no_end_more : (bs : List ℕ) (b : ℕ) → no_end bs ≡ true → eqb b 0xff ≡ false → no_end (bs ++ b ∷ []) ≡ true
@@ -43,3 +46,16 @@ packet_some (c ∷ bs) h =
     let (x, y) = and_parts (is_header c && closes bs && leb 2 (length bs)) (leb (length bs) 15) h in
     let (v, w) = and_parts (is_header c && closes bs) (leb 2 (length bs)) x in
     omega (arith, leb-true 2 (length bs) w)
+
+-- a framer that has begun a packet takes one byte more
+pub begun_more : (s : State) (bs : List ℕ) (b : ℕ) → s ≡ Begun bs → sound s ≡ true → length bs ≢ 15 → b ≢ 0xff → sound (Begun (bs ++ b ∷ [])) ≡ true
+begun_more s bs b i h l e =
+    let (o, m) = and_parts (opens bs) (leb (length bs) 15) (rw i at h) in
+    let n : length (bs ++ b ∷ []) ≡ length bs + 1 = simp length-append in
+    and_from (opens (bs ++ b ∷ [])) (leb (length (bs ++ b ∷ [])) 15) (opens_more bs b o (ne_eqb b 0xff e)) (le-leb (length (bs ++ b ∷ [])) 15 (omega (arith, leb-true (length bs) 15 m)))
+
+-- or FF, and the packet is whole
+pub begun_whole : (s : State) (bs : List ℕ) (b : ℕ) → s ≡ Begun bs → sound s ≡ true → length bs ≢ 1 → b ≡ 0xff → is_packet (bs ++ b ∷ []) ≡ true
+begun_whole s bs b i h l e =
+    let (o, m) = and_parts (opens bs) (leb (length bs) 15) (rw i at h) in
+    rw e (whole bs o (omega (arith, opens_some bs o)) (leb-true (length bs) 15 m))

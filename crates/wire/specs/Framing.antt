@@ -1,11 +1,10 @@
 -- Framing: what each byte makes of what stands before it.
-use Rattle.std.specs.Prelude.{ℕ, cond, List, [], ◌∷◌, ◌++◌, length, take, Some, None, Ok, Err, Option, Result, ◌==◌}
+use Rattle.std.specs.Prelude.{ℕ, cond, List, [], ◌∷◌, ◌++◌, length, Some, None, Ok, Err, Option, Result, ◌==◌}
 use Rattle.wire.specs.declared.fault.FaultCode.{FaultCode}
-use Rattle.wire.specs.declared.framer.Framer.{Framer}
+use Rattle.wire.specs.declared.fault.Layer.{Layer}
+use Rattle.wire.specs.declared.fault.Layer.TheVariants as layer
 use Rattle.wire.specs.declared.framer.FramingFault.{FramingFault}
 use Rattle.wire.specs.declared.framer.FramingFault.TheVariants.{NoHeader, NoBody, Overlong}
-use Rattle.wire.specs.declared.framer.State.{State}
-use Rattle.wire.specs.declared.framer.State.TheVariants.{Idle, Begun, Skipping}
 use Rattle.wire.specs.declared.packet.Packet.{Packet}
 use Rattle.wire.specs.Packets.{is_header}
 
@@ -33,27 +32,26 @@ event (begun bs) b =
     (cond (length bs == 15) (Err Overlong) (Ok None))
 event skipping b = Ok None
 
+-- the layers by number
+abbrev pub number_of : Layer → ℕ
+number_of layer.Call = 0
+number_of layer.Framing = 1
+number_of layer.Packet = 2
+number_of layer.Row = 3
+
 -- each fault's number, layer and place
-abbrev pub code : ℕ → ℕ → ℕ → FaultCode
+abbrev pub code : ℕ → Layer → ℕ → FaultCode
 code n l p = record { number = n; layer = l; place = p }
 
 abbrev pub code_of : FramingFault → FaultCode
-code_of NoHeader = code 2 1 0
-code_of NoBody = code 3 1 1
-code_of Overlong = code 4 1 15
+code_of NoHeader = code 2 layer.Framing 0
+code_of NoBody = code 3 layer.Framing 1
+code_of Overlong = code 4 layer.Framing 15
 
--- The framer and its packets, as the definitions above speak of them.
+-- Packets, as the definitions above speak of them.
 
 abbrev pub bytes_of : Packet → List ℕ
-bytes_of p = take p.len p.bytes
-
-abbrev held_by : State → List ℕ → Held
-held_by Idle bs = none
-held_by Begun bs = begun bs
-held_by Skipping bs = skipping
-
-abbrev pub held : Framer → Held
-held f = held_by f.state (take f.len f.bytes)
+bytes_of p = p.bytes
 
 abbrev pub told : Result (Option Packet) FramingFault → Event
 told (Ok None) = Ok None

@@ -1,4 +1,5 @@
 pub mod Packets
+pub mod Kept
 pub mod States
 pub mod Framing
 pub mod Line

@@ -1,32 +1,47 @@
 //! How a fault is told: its number, the layer that found it, and its place in the packet.
 
 ghost use Rattle.std.specs.Prelude.{◌≡◌};
-ghost use Rattle.wire.specs.Framing.{code_of};
+ghost use Rattle.wire.specs.Framing.{code_of, number_of};
 
 use crate::framer::FramingFault;
 
-/// A fault by number, layer (0 call, 1 framing, 2 packet, 3 row) and place, counted from the
-/// header as 0.
-#[derive(Clone, Copy)]
+/// The layer that finds a fault, each by its number.
+#[derive(Clone, Copy, Debug, PartialEq, Eq)]
+pub enum Layer {
+    Call = 0,
+    Framing = 1,
+    Packet = 2,
+    Row = 3,
+}
+
+/// A fault by number, layer and place, counted from the header as 0.
+#[derive(Clone, Copy, Debug, PartialEq, Eq)]
 pub struct FaultCode {
     pub number: u8,
-    pub layer: u8,
+    pub layer: Layer,
     pub place: u8,
 }
 
-impl FramingFault {
-    /// Number, layer and place of the fault.
-    pub fn code(self) -> FaultCode
-        ensures { result ≡ code_of self }
-    {
-        let (number, place) = match self {
+impl From<Layer> for u8 {
+    ghost from_gives = { λ layer n. n ≡ number_of layer };
+
+    fn from(layer: Layer) -> u8 {
+        layer as u8
+    }
+}
+
+impl From<FramingFault> for FaultCode {
+    ghost from_gives = { λ fault code. code ≡ code_of fault };
+
+    fn from(fault: FramingFault) -> FaultCode {
+        let (number, place) = match fault {
             FramingFault::NoHeader => (2, 0),
             FramingFault::NoBody => (3, 1),
             FramingFault::Overlong => (4, 15),
         };
         FaultCode {
             number,
-            layer: 1,
+            layer: Layer::Framing,
             place,
         }
     }

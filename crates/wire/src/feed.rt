@@ -1,54 +1,49 @@
 //! What the framer makes of each byte.
 
 ghost use Rattle.std.specs.Prelude.{◌≡◌};
-ghost use Rattle.wire.specs.Framing.{none, held, next, event, told};
+ghost use Rattle.wire.specs.Framing.{none, next, event, told};
 
+use crate::bytes::Bytes;
 use crate::framer::{Framer, FramingFault, State};
 use crate::packet::Packet;
 
 impl Framer {
     /// A framer with no packet begun.
     pub fn new() -> Framer
-        ensures { held result ≡ none }
+        ensures { result ≡ none }
     {
-        Framer {
-            state: State::Idle,
-            bytes: [0; 16],
-            len: 0,
-        }
+        Framer { state: State::Idle }
     }
 
     /// Takes one byte: it may make a packet whole, or be at fault.
+    #[tactic(auto, using(crate::proofs::Forms::begun_more, crate::proofs::Forms::begun_whole))]
     pub fn feed(&mut self, byte: u8) -> Result<Option<Packet>, FramingFault>
-        ensures state { held self.new ≡ next (held self.old) byte }
-        ensures event { told result ≡ event (held self.old) byte }
+        ensures state { self.new ≡ next self.old byte }
+        ensures event { told result ≡ event self.old byte }
     {
         match (&mut self.state, byte) {
             (State::Idle, 0x80..=0xfe) => {
-                self.state = State::Begun;
-                self.bytes[0] = byte;
-                self.len = 1;
+                let mut bytes = Bytes::new();
+                bytes.push(byte);
+                self.state = State::Begun(bytes);
                 Ok(None)
             }
             (State::Idle, _) => Err(FramingFault::NoHeader),
-            (State::Begun, 0xff) => {
+            (State::Begun(begun), 0xff) => {
+                let mut bytes = *begun;
                 self.state = State::Idle;
-                if self.len == 1 {
+                if bytes.len() == 1 {
                     return Err(FramingFault::NoBody);
                 }
-                self.bytes[self.len] = byte;
-                Ok(Some(Packet {
-                    bytes: self.bytes,
-                    len: self.len + 1,
-                }))
+                bytes.push(byte);
+                Ok(Some(Packet { bytes }))
             }
-            (State::Begun, _) => {
-                if self.len == 15 {
+            (State::Begun(bytes), _) => {
+                if bytes.len() == 15 {
                     self.state = State::Skipping;
                     return Err(FramingFault::Overlong);
                 }
-                self.bytes[self.len] = byte;
-                self.len += 1;
+                bytes.push(byte);
                 Ok(None)
             }
             (State::Skipping, 0xff) => {

@@ -1,7 +1,7 @@
 //! Where the framer stands between bytes, and what it finds wrong.
 
-ghost use Rattle.std.specs.Prelude.{◌≡◌, ◌≤◌, Bool, true, take};
-ghost use Rattle.wire.specs.States.{sound};
+use crate::bytes::Bytes;
+use std::marker::Model;
 
 /// Between bytes.
 ///
@@ -21,15 +21,15 @@ ghost use Rattle.wire.specs.States.{sound};
 ///
 /// Idle: no packet is begun. Begun: the bytes so far are kept. Skipping: the rest of a packet that
 /// is too long is let go by, its FF too.
-#[derive(Clone, Copy)]
-pub enum State {
+#[derive(Clone, Copy, Debug, PartialEq, Eq)]
+pub(crate) enum State {
     Idle,
-    Begun,
+    Begun(Bytes),
     Skipping,
 }
 
 /// What is wrong with a byte; the packet that it belongs to is dropped.
-#[derive(Clone, Copy)]
+#[derive(Clone, Copy, Debug, PartialEq, Eq)]
 pub enum FramingFault {
     /// Fault 2: no packet is begun, and the byte is no header.
     NoHeader,
@@ -40,11 +40,19 @@ pub enum FramingFault {
 }
 
 /// Makes packets of bytes, one byte at a time.
-#[derive(Drop)]
+#[derive(Debug, Drop)]
 pub struct Framer {
     pub(crate) state: State,
-    pub(crate) bytes: [u8; 16],
-    pub(crate) len: usize,
-    ghost room: { len ≤ 15 },
-    ghost kept: { sound state (take len bytes) ≡ true },
+}
+
+impl Model for Framer {
+    ghost use Rattle.std.specs.Prelude.{◌≡◌, true};
+    ghost use Rattle.wire.specs.Framing.{Held};
+    ghost use Rattle.wire.specs.States.{held, sound};
+
+    ghost Value = { Held };
+
+    ghost view = { λ f. held f.state };
+
+    ghost invariant = { λ f. sound f.state ≡ true };
 }

@@ -5,15 +5,17 @@
 
 #![tactic(auto)]
 
+mod bytes;
 mod fault;
 mod feed;
 mod framer;
 mod packet;
 mod parts;
 pub mod theorems;
+mod words;
 mod writer;
 
-pub use fault::FaultCode;
+pub use fault::{FaultCode, Layer};
 pub use framer::{Framer, FramingFault};
 pub use packet::Packet;
-pub use writer::{send, send_at};
+pub use writer::send_at;

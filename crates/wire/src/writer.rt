@@ -1,7 +1,7 @@
-//! The one way to put packets at the front of a caller's buffer.
+//! The one way to put packets into a caller's buffer.
 
 ghost use Rattle.std.specs.Prelude.{◌≡◌, ◌+◌, length, if◌then◌else◌, Some, None, nat_le};
-ghost use Rattle.wire.specs.Line.{over, over_at};
+ghost use Rattle.wire.specs.Line.{over_at};
 
 /// Puts the bytes into the buffer from a place on and tells the place behind them. A buffer that is
 /// too short for them gets none and is left as it is.
@@ -9,24 +9,10 @@ pub fn send_at(out: &mut [u8], at: usize, bytes: &[u8]) -> Option<usize>
     ensures next { result ≡ (if nat_le (at + length bytes.now) (length out.old) then Some (at + length bytes.now) else None) }
     ensures sent { out.new ≡ (if nat_le (at + length bytes.now) (length out.old) then over_at at bytes.now out.old else out.old) }
 {
-    let n = bytes.len();
-    if at > out.len() || n > out.len() - at {
+    let end = at.checked_add(bytes.len())?;
+    if end > out.len() {
         return None;
     }
-    out[at..at + n].copy_from_slice(bytes);
-    Some(at + n)
-}
-
-/// Puts the bytes at the front of the buffer and tells their count. A buffer that is too short for
-/// them gets none and is left as it is.
-pub fn send(out: &mut [u8], bytes: &[u8]) -> Option<usize>
-    ensures count { result ≡ (if nat_le (length bytes.now) (length out.old) then Some (length bytes.now) else None) }
-    ensures sent { out.new ≡ (if nat_le (length bytes.now) (length out.old) then over bytes.now out.old else out.old) }
-{
-    let n = bytes.len();
-    if n > out.len() {
-        return None;
-    }
-    out[0..n].copy_from_slice(bytes);
-    Some(n)
+    out[at..end].copy_from_slice(bytes);
+    Some(end)
 }

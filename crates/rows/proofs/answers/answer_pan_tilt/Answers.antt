@@ -12,6 +12,6 @@ returns g c =
     let e : h ∷ 0x50 ∷ get_or pan 0 0 ∷ get_or pan 1 0 ∷ get_or pan 2 0 ∷ get_or pan 3 0 ∷ get_or tilt 0 0 ∷ get_or tilt 1 0 ∷ get_or tilt 2 0 ∷ get_or tilt 3 0 ∷ 0xff ∷ []
     ≡ pan_tilt_answered h (g.L.Look.setting x) (g.L.Look.pantilt x) = simp (c.shown.ensures, c.shown-2.ensures, p) in
     record {
-      count = c.send-2.ensures.count ∙ ap (λ (b : List ℕ). count_of b c.args.out.now) e;
-      sent = c.send-2.ensures.sent ∙ ap (λ (b : List ℕ). sent b c.args.out.now) e;
+      count = c.send_at-2.ensures.next ∙ ap (λ (b : List ℕ). count_of b c.args.out.now) e;
+      sent = c.send_at-2.ensures.sent ∙ ap (λ (b : List ℕ). sent b c.args.out.now) e;
     }
