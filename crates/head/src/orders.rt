@@ -2,18 +2,28 @@
 
 ghost use Rattle.std.specs.Prelude.{◌≡◌};
 ghost use Rattle.head.specs.Made.{made};
-ghost use Rattle.head.specs.Orders.{parts, leading, wants, any_pan_tilt, shares};
+ghost use Rattle.head.specs.Orders.{parts, leading, wants, different, any_pan_tilt, shares};
 
 use crate::order::{Order, Paces};
 use crate::setting::Setting;
-use crate::target::{Target, Targets};
+use crate::target::{Target, Targets, wanted};
+
+// Whether no setting is named twice.
+fn differ(targets: &[Target]) -> bool
+    ensures { result ≡ different targets.now }
+{
+    match targets {
+        [first, rest @ ..] => wanted(rest, first.setting).is_none() && differ(rest),
+        [] => true,
+    }
+}
 
 impl Order {
     /// An order of these targets; none if a setting is named twice.
     pub fn new(targets: Targets, paces: Paces) -> Option<Order>
         ensures { result ≡ made targets paces }
     {
-        if targets.differ() {
+        if differ(targets.as_slice()) {
             Some(Order { targets, paces })
         } else {
             None

@@ -1,7 +1,7 @@
 //! The targets of an order: one to four settings, each with the value that it is to get.
 
 ghost use Rattle.std.specs.Prelude.{◌≡◌, ◌≤◌, length};
-ghost use Rattle.head.specs.Orders.{parts, wants, names, different, all_in_range, any_pan_tilt, shares};
+ghost use Rattle.head.specs.Orders.{parts, wants, names, all_in_range, any_pan_tilt, shares};
 
 use crate::setting::Setting;
 
@@ -21,24 +21,14 @@ pub enum Targets {
     Four([Target; 4]),
 }
 
-// The value that the first of the targets for the setting gives it.
-fn wanted(targets: &[Target], setting: Setting) -> Option<i32>
+/// The value that the first of the targets for the setting gives it.
+pub(crate) fn wanted(targets: &[Target], setting: Setting) -> Option<i32>
     ensures { result ≡ wants targets.now setting }
 {
     targets
         .iter()
         .find(|t| t.setting == setting)
         .map(|t| t.value)
-}
-
-// Whether no setting is named twice.
-fn differ(targets: &[Target]) -> bool
-    ensures { result ≡ different targets.now }
-{
-    match targets {
-        [first, rest @ ..] => wanted(rest, first.setting).is_none() && differ(rest),
-        [] => true,
-    }
 }
 
 impl Targets {
@@ -67,13 +57,6 @@ impl Targets {
         ensures { result ≡ names (parts self.now) setting }
     {
         self.get(setting).is_some()
-    }
-
-    /// Whether no setting is named twice.
-    pub(crate) fn differ(&self) -> bool
-        ensures { result ≡ different (parts self.now) }
-    {
-        differ(self.as_slice())
     }
 
     /// Whether every target is in the range of its setting.

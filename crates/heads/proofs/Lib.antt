@@ -5,3 +5,5 @@ pub mod Lawful
 pub mod Apart
 pub mod Rigs
 pub mod Punctual
+pub mod Options
+pub mod Axes

@@ -1,5 +1,5 @@
 -- A dome that is not stalled keeps its orders in time.
-use Rattle.std.proofs.Common.{◌≡◌, ℕ, ◌+◌, ◌-◌, ◌*◌, ◌/◌, ◌%◌, ◌<◌, ◌≤◌, min, Bool, true, false, ◌&&◌, ◌||◌, eqb, ltb, ℤ, ◌-ℤ◌, nat_abs, Some, None, Option, sym, refl, ap, ◌∙◌, ⊎_elim, le-add_right, mul-le-mul_right, mod-lt, add-mul, one-mul, arith}
+use Rattle.std.proofs.Common.{◌≡◌, ℕ, ◌+◌, ◌-◌, ◌*◌, ◌/◌, ◌%◌, ◌<◌, ◌≤◌, min, Bool, true, false, ◌&&◌, eqb, ltb, ℤ, ◌-ℤ◌, nat_abs, Some, None, Option, sym, refl, ap, ◌∙◌, ⊎_elim, le-add_right, mul-le-mul_right, mod-lt, add-mul, one-mul, arith}
 use lib.Signed.{le_z}
 use Rattle.std.proofs.lemmas.Nat.{div-add-mod'}
 use Rattle.std.proofs.lemmas.Int.{ints, clamps}
@@ -14,15 +14,13 @@ use Rattle.head.specs.Orders.{parts, wants}
 use Rattle.head.specs.Meaning.{Slot, idle, busy, put, Meaning, Timed, Started, Dropped}
 use Rattle.heads.specs.Motion.{step, toward}
 use Rattle.heads.specs.Exact.{rounded_up, ticks_on, longest, is_at, there, arrived, told, rest, Ran}
-use Rattle.heads.specs.declared.dome.Dome.{Dome}
 use Rattle.heads.specs.declared.rig.Rig.{Rig}
-use Rattle.heads.specs.Heads.{dome, motion_of}
 use Rattle.heads.specs.Rigs.{means}
 use Rattle.heads.proofs.Rigs.{job_timed}
 use Rattle.heads.specs.declared.motion.Motion.TheVariants.{Stepwise}
 use Rattle.heads.proofs.Lawful.{Moved, Apart, moved_one, moved_two}
 use Rattle.heads.proofs.Spans.{moves}
-use Rattle.heads.specs.Punctual.{in_time, punctual, is_jammed}
+use Rattle.heads.specs.Punctual.{in_time, punctual, OnTime, is_jammed}
 
 -- a fact of each axis, and the four together
 abbrev Each : (Axis → Bool) → Type 0
@@ -129,47 +127,34 @@ same_punctual (busy o n) f f' h e = simp (h (position Zoom), h (position Focus),
 
 -- Both slots, over each call.
 
-abbrev pub Both : Meaning → Type 0
-Both m = (punctual m.slots.one m.setting ≡ true) × (punctual m.slots.two m.setting ≡ true)
+put_on_time : (m m' : Meaning) (y : ℕ) (b : Slot) → ((s : Setting) → m'.setting s ≡ m.setting s) → m'.slots ≡ put m.slots y b → punctual b m.setting ≡ true → OnTime m → OnTime m'
+put_on_time m m' y b same e p h = record {
+  one = same_punctual m'.slots.one m.setting m'.setting same (rw e (cond_both (eqb y 1) b m.slots.one (λ x. punctual x m.setting ≡ true) (λ _. p) (λ _. h.one)));
+  two = same_punctual m'.slots.two m.setting m'.setting same (rw e (cond_both (eqb y 2) b m.slots.two (λ x. punctual x m.setting ≡ true) (λ _. p) (λ _. h.two)));
+}
 
-put_punctual : (m m' : Meaning) (y : ℕ) (b : Slot) → ((s : Setting) → m'.setting s ≡ m.setting s) → m'.slots ≡ put m.slots y b → punctual b m.setting ≡ true → Both m → Both m'
-put_punctual m m' y b same e p (h, g) = (
-  same_punctual m'.slots.one m.setting m'.setting same (rw e (cond_both (eqb y 1) b m.slots.one (λ x. punctual x m.setting ≡ true) (λ _. p) (λ _. h))),
-  same_punctual m'.slots.two m.setting m'.setting same (rw e (cond_both (eqb y 2) b m.slots.two (λ x. punctual x m.setting ≡ true) (λ _. p) (λ _. g))),
-)
+pub drop_keeps : (m m' : Meaning) (y : ℕ) → Dropped m y m' → OnTime m → OnTime m'
+drop_keeps m m' y d h = put_on_time m m' y idle d.kept.setting d.now_idle refl h
 
-pub drop_keeps : (m m' : Meaning) (y : ℕ) → Dropped m y m' → Both m → Both m'
-drop_keeps m m' y d h = put_punctual m m' y idle d.kept.setting d.now_idle refl h
-
-pub start_keeps : (m m' : Meaning) (y : ℕ) (o : Order) (r : ℕ) → Started m y o r m' → (r ≡ 0 → m'.slots ≡ put m.slots y (busy o (longest m.setting o))) → Both m → Both m'
-start_keeps m m' y o r s t (h, g) =
+pub start_keeps : (m m' : Meaning) (y : ℕ) (o : Order) (r : ℕ) → Started m y o r m' → (r ≡ 0 → m'.slots ≡ put m.slots y (busy o (longest m.setting o))) → OnTime m → OnTime m'
+start_keeps m m' y o r s t h =
     ⊎_elim
-    (λ (e : r ≡ 0). put_punctual m m' y (busy o (longest m.setting o)) s.kept.setting (t e) (start_punctual m.setting o) (h, g))
+    (λ (e : r ≡ 0). put_on_time m m' y (busy o (longest m.setting o)) s.kept.setting (t e) (start_punctual m.setting o) h)
     (λ (e : r ≡ 0 → ⊥).
-    let k : 1 ≤ r = omega arith in
-    let i = s.refused k in
-    (same_punctual m'.slots.one m.setting m'.setting s.kept.setting (rw i h), same_punctual m'.slots.two m.setting m'.setting s.kept.setting (rw i g)))
+    let i = s.refused (omega arith) in
+    record {
+      one = same_punctual m'.slots.one m.setting m'.setting s.kept.setting (rw i h.one);
+      two = same_punctual m'.slots.two m.setting m'.setting s.kept.setting (rw i h.two);
+    })
     (cases_eq r 0)
 
-tick_keeps : (m m' : Meaning) (e : Endings) → Timed m.slots.one → Timed m.slots.two → Apart m.slots.one m.slots.two → Ran Stepwise m e m' → Both m
-    → Both m' × ((is_jammed e.one ≡ false) × (is_jammed e.two ≡ false))
-tick_keeps m m' e t₁ t₂ apart ran (h, g) =
-    let one = tick_punctual m.slots.one m.setting m'.setting t₁ (moved_one Stepwise m m' e apart ran.setting) h in
-    let two = tick_punctual m.slots.two m.setting m'.setting t₂ (moved_two Stepwise m m' e apart ran.setting) g in
-    ((rw ran.one one.0, rw ran.two two.0), (rw ran.told_one one.1, rw ran.told_two two.1))
+tick_keeps : (m m' : Meaning) (e : Endings) → Timed m.slots.one → Timed m.slots.two → Apart m.slots.one m.slots.two → Ran Stepwise m e m' → OnTime m
+    → OnTime m' × ((is_jammed e.one ≡ false) × (is_jammed e.two ≡ false))
+tick_keeps m m' e t₁ t₂ apart ran h =
+    let one = tick_punctual m.slots.one m.setting m'.setting t₁ (moved_one Stepwise m m' e apart ran.setting) h.one in
+    let two = tick_punctual m.slots.two m.setting m'.setting t₂ (moved_two Stepwise m m' e apart ran.setting) h.two in
+    (record { one = rw ran.one one.0; two = rw ran.two two.0 }, (rw ran.told_one one.1, rw ran.told_two two.1))
 
--- A dome, whose slots are in time where it is not stalled.
-
-pub both_in : (d : Dome) → d.stalled ≡ false → Both (dome d)
-both_in d e = (simp e at d.first, simp e at d.second)
-
--- what holds where it is not stalled is what the dome's type asks
-pub unless_stalled : (stalled : Bool) (m : Meaning) → (stalled ≡ false → Both m)
-    → ((stalled || punctual m.slots.one m.setting) ≡ true) × ((stalled || punctual m.slots.two m.setting) ≡ true)
-unless_stalled true m h = (refl, refl)
-unless_stalled false m h = h refl
-
-pub dome_keeps : (d : Dome) (r : Rig) (e : Endings) → Ran (motion_of d.stalled) (dome d) e (means true r) → d.stalled ≡ false
-    → Both (means true r) × ((is_jammed e.one ≡ false) × (is_jammed e.two ≡ false))
-dome_keeps d r e ran live =
-    tick_keeps (dome d) (means true r) e (job_timed d.rig.one) (job_timed d.rig.two) d.rig.apart (simp live at ran) (both_in d live)
+pub rig_keeps : (p : Bool) (r r' : Rig) (e : Endings) → Ran Stepwise (means p r) e (means p r') → OnTime (means p r)
+    → OnTime (means p r') × ((is_jammed e.one ≡ false) × (is_jammed e.two ≡ false))
+rig_keeps p r r' e ran h = tick_keeps (means p r) (means p r') e (job_timed r.one) (job_timed r.two) r.apart ran h

@@ -1,5 +1,5 @@
 -- How far a position can be from its target, and how many ticks that takes.
-use Rattle.std.proofs.Common.{◌≡◌, ℕ, ◌+◌, ◌*◌, ◌/◌, ◌%◌, ◌<◌, ◌≤◌, min, max, true, ◌&&◌, ℤ, pos, negsuc, ◌-ℤ◌, nat_abs, ap, ⊎_elim, add-mul, mul-le-mul_left, arith}
+use Rattle.std.proofs.Common.{◌≡◌, ℕ, ◌+◌, ◌*◌, ◌/◌, ◌%◌, ◌<◌, ◌≤◌, min, max, true, ◌&&◌, ℤ, pos, negsuc, ◌-ℤ◌, nat_abs, Some, None, Option, refl, ap, ⊎_elim, add-mul, mul-le-mul_left, arith}
 use lib.Signed.{le_z}
 use Rattle.std.proofs.lemmas.Nat.{div_below, div-add-mod'}
 use Rattle.std.proofs.lemmas.Int.{ints}
@@ -7,8 +7,15 @@ use Rattle.std.proofs.lemmas.Bool.{and_parts, cases_eq}
 use Rattle.head.specs.declared.order.Paces.{Paces}
 use Rattle.head.specs.declared.setting.Axis.{Axis}
 use Rattle.head.specs.declared.setting.Axis.TheVariants.{Zoom, Focus, Pan, Tilt}
+use Rattle.head.specs.declared.order.Order.{Order}
+use Rattle.head.specs.declared.settings.Settings.{Settings}
 use Rattle.head.specs.Settings.{in_range, position}
-use Rattle.heads.specs.Exact.{rounded_up}
+use Rattle.head.specs.Orders.{parts, wants, all_in_range}
+use Rattle.head.specs.Values.{value_of}
+use Rattle.head.proofs.Wants.{wants_in_range}
+use Rattle.heads.specs.declared.motion.Motion.{Motion}
+use Rattle.heads.specs.declared.motion.Motion.TheVariants.{AtOnce, Stepwise, Stalled}
+use Rattle.heads.specs.Exact.{rounded_up, ticks_on, ticks_of}
 use Rattle.heads.specs.Motion.{unit, pace, step}
 
 some_unit : (a : Axis) → 1 ≤ unit a
@@ -50,7 +57,22 @@ few_steps d n k h g =
     (cases_eq (d / n) k)
 
 -- no order of ours takes more than 640 ticks
-pub few_ticks : (p : Paces) (a : Axis) (v t : ℤ) → in_range (position a) v ≡ true → in_range (position a) t ≡ true
+few_ticks : (p : Paces) (a : Axis) (v t : ℤ) → in_range (position a) v ≡ true → in_range (position a) t ≡ true
     → rounded_up (nat_abs (v -ℤ t)) (step p a) ≤ 640
 few_ticks p a v t h g =
     few_steps (nat_abs (v -ℤ t)) (step p a) 640 (moves p a) (omega (arith, near a v t h g, at_least p a))
+
+few_on : (x : Settings) (o : Order) (a : Axis) → all_in_range (parts o.targets) ≡ true → ticks_on (value_of x) o a ≤ 640
+few_on x o a h = by (wants (parts o.targets) (position a)) refl
+  where
+    by : (w : Option ℤ) → wants (parts o.targets) (position a) ≡ w → ticks_on (value_of x) o a ≤ 640
+    by None e = simp e (omega arith)
+    by (Some t) e = simp e (few_ticks o.paces a (value_of x (position a)) t (x.ranged (position a)) (wants_in_range (parts o.targets) (position a) t h e))
+
+pub few_of : (m : Motion) (x : Settings) (o : Order) → all_in_range (parts o.targets) ≡ true → ticks_of m (value_of x) o ≤ 1000
+few_of m x o h =
+    let z = few_on x o Zoom h in
+    let f = few_on x o Focus h in
+    let p = few_on x o Pan h in
+    let t = few_on x o Tilt h in
+    elim m as (λ (k : Motion). ticks_of k (value_of x) o ≤ 1000) [ AtOnce ↦ omega arith | Stepwise ↦ omega arith | Stalled ↦ omega arith ]

@@ -4,73 +4,47 @@ ghost use Rattle.std.specs.Prelude.{◌≡◌, false};
 ghost use Rattle.head.specs.declared.setting.Setting.{Setting};
 ghost use Rattle.head.specs.Settings.{about};
 ghost use Rattle.head.specs.Values.{value_of};
-ghost use Rattle.head.specs.Meaning.{idle, busy, put, answered, Started, Ticked};
-ghost use Rattle.heads.specs.Exact.{Ran};
+ghost use Rattle.head.specs.Meaning.{idle};
+ghost use Rattle.heads.specs.declared.motion.Motion.TheVariants.{AtOnce};
 ghost use Rattle.heads.specs.Rigs.{slots_of};
-ghost use Rattle.heads.specs.Heads.{block};
 ghost use Rattle.std.proofs.Common.{rules};
 
+use crate::gear::Gear;
+use crate::geared::Geared;
 use crate::motion::Motion;
 use crate::rig::Rig;
-use head::{Endings, Head, Look, Order, Refusal};
 
-const PAN_TILT: bool = false;
+/// The gear of a block.
+#[derive(Clone, Copy, Debug, PartialEq, Eq)]
+pub struct Fixed;
 
-#[derive(Drop)]
-pub struct Block {
-    rig: Rig,
+impl Gear for Fixed {
+    ghost PAN_TILT = { false };
+
+    ghost motion = { λ g. AtOnce };
+
+    ghost ticks = { λ f o. 1 };
+
+    ghost chosen = { Prim.search rules };
+
+    const PAN_TILT: bool = false;
+
+    fn motion(&self) -> Motion {
+        Motion::AtOnce
+    }
 }
 
-impl Block {
+pub type Block = Geared<Fixed>;
+
+impl Geared<Fixed> {
     /// A block with its first settings, both slots idle.
     pub fn new() -> Block
-        ensures settings { (s : Setting) → (block result).setting s ≡ (about s).first }
-        ensures slots { (block result).slots ≡ record { one = idle; two = idle } }
+        ensures settings { (s : Setting) → value_of result.rig.settings s ≡ (about s).first }
+        ensures slots { slots_of result.rig ≡ record { one = idle; two = idle } }
     {
-        Block { rig: Rig::new() }
-    }
-}
-
-impl Look for Block {
-    ghost setting = { λ b. value_of b.rig.settings };
-
-    ghost pantilt = { λ b. false };
-
-    ghost ranged = { Prim.search rules };
-
-    fn look(&self, number: u8) -> Option<i32> {
-        self.rig.look(number)
-    }
-
-    fn has_pan_tilt(&self) -> bool {
-        PAN_TILT
-    }
-}
-
-impl Head for Block {
-    ghost slots = { λ b. slots_of b.rig };
-
-    ghost timed = { Prim.search rules };
-
-    fn ticks_left(&self, slot: u8) -> u16 {
-        self.rig.ticks_left(slot)
-    }
-
-    fn start(&mut self, slot: u8, order: Order) -> Result<(), Refusal>
-        ensures started { Started (block self.old) slot order (answered result) (block self.new) }
-        ensures one_tick { answered result ≡ 0 → (block self.new).slots ≡ put (block self.old).slots slot (busy order 1) }
-    {
-        self.rig.start(Motion::AtOnce, PAN_TILT, slot, order)
-    }
-
-    fn tick(&mut self) -> Endings
-        ensures lawful { Ticked (block self.old) result (block self.new) }
-        ensures exact { Ran Motion.AtOnce (block self.old) result (block self.new) }
-    {
-        self.rig.tick(Motion::AtOnce)
-    }
-
-    fn drop_slot(&mut self, slot: u8) {
-        self.rig.drop_slot(slot)
+        Geared {
+            gear: Fixed,
+            rig: Rig::new(Fixed.motion()),
+        }
     }
 }

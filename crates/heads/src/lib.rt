@@ -5,11 +5,12 @@
 
 mod block;
 mod dome;
-mod dome_head;
+mod gear;
+mod geared;
 mod job;
 mod motion;
+mod positions;
 mod rig;
-mod slot;
 mod slots;
 mod tick;
 mod ticks;

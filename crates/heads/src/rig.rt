@@ -1,4 +1,5 @@
-//! What our heads are made of: the settings, and the two slots with the orders at work.
+//! What our heads are made of: how they move, the settings, and the two slots
+//! with the orders at work.
 
 ghost use Rattle.std.specs.Prelude.{◌≡◌, false, ◌&&◌, is_some};
 ghost use Rattle.head.specs.declared.setting.Setting.{Setting};
@@ -6,11 +7,13 @@ ghost use Rattle.head.specs.Meaning.{wanted};
 ghost use Rattle.heads.specs.Exact.{slot_of};
 
 use crate::job::Job;
+use crate::motion::Motion;
 use head::Settings;
 
-/// The settings and the slots of a head. No setting is named by both orders.
+/// How a head moves, its settings and its slots. No setting is named by both orders.
 #[derive(Drop)]
 pub struct Rig {
+    pub(crate) motion: Motion,
     pub(crate) settings: Settings,
     pub(crate) one: Option<Job>,
     pub(crate) two: Option<Job>,

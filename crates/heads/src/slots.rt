@@ -11,17 +11,17 @@ ghost use Rattle.heads.specs.Rigs.{means, slots_of};
 use crate::job::Job;
 use crate::motion::Motion;
 use crate::rig::Rig;
-use crate::slot::{left, order as order_in};
-use crate::ticks::ticks;
 use head::{Order, Refusal, Setting, Settings, admit};
 
 impl Rig {
     /// Settings at their first values and both slots idle.
-    pub(crate) fn new() -> Rig
+    pub(crate) fn new(motion: Motion) -> Rig
+        ensures motion { result.motion ≡ motion }
         ensures settings { (s : S) → value_of result.settings s ≡ (about s).first }
         ensures slots { slots_of result ≡ record { one = idle; two = idle } }
     {
         Rig {
+            motion,
             settings: Settings::new(),
             one: None,
             two: None,
@@ -41,48 +41,44 @@ impl Rig {
     pub(crate) fn ticks_left(&self, slot: u8) -> u16
         ensures { result ≡ left_of (slot_at (slots_of self.now) slot) }
     {
-        match slot {
-            1 => left(self.one),
-            2 => left(self.two),
-            _ => 0,
-        }
+        let job = match slot {
+            1 => self.one,
+            2 => self.two,
+            _ => None,
+        };
+        job.map_or(0, |job| job.left)
+    }
+
+    // Turns an order down with the first reason against it.
+    fn admit(&self, pan_tilt: bool, slot: u8, order: Order) -> Result<(), Refusal>
+        ensures { answered result ≡ refusal (means pan_tilt self.now) slot order }
+    {
+        let one = self.one.map(|job| job.order);
+        let two = self.two.map(|job| job.order);
+        admit(pan_tilt, one, two, slot, order)
     }
 
     /// Starts an order in a slot, or turns it down.
-    pub(crate) fn start(
-        &mut self,
-        motion: Motion,
-        pan_tilt: bool,
-        slot: u8,
-        order: Order,
-    ) -> Result<(), Refusal>
+    pub(crate) fn start(&mut self, pan_tilt: bool, slot: u8, order: Order) -> Result<(), Refusal>
         ensures started { Started (means pan_tilt self.old) slot order (answered result) (means pan_tilt self.new) }
-        ensures ticks { answered result ≡ 0 → slots_of self.new ≡ put (slots_of self.old) slot (busy order (ticks_of motion (value_of self.old.settings) order)) }
+        ensures ticks { answered result ≡ 0 → slots_of self.new ≡ put (slots_of self.old) slot (busy order (ticks_of self.old.motion (value_of self.old.settings) order)) }
+        ensures motion { self.new.motion ≡ self.old.motion }
     {
-        match admit(
-            pan_tilt,
-            order_in(self.one),
-            order_in(self.two),
-            slot,
-            order,
-        ) {
-            Err(reason) => Err(reason),
-            Ok(()) => {
-                let left = ticks(motion, &self.settings, order);
-                let job = Some(Job { order, left });
-                if slot == 1 {
-                    self.one = job;
-                } else {
-                    self.two = job;
-                }
-                Ok(())
-            }
+        self.admit(pan_tilt, slot, order)?;
+        let left = self.ticks(order) as u16;
+        let job = Some(Job { order, left });
+        if slot == 1 {
+            self.one = job;
+        } else {
+            self.two = job;
         }
+        Ok(())
     }
 
     /// Makes a slot idle.
     pub(crate) fn drop_slot(&mut self, slot: u8)
-        ensures { (p : Bool) → Dropped (means p self.old) slot (means p self.new) }
+        ensures dropped { (p : Bool) → Dropped (means p self.old) slot (means p self.new) }
+        ensures motion { self.new.motion ≡ self.old.motion }
     {
         match slot {
             1 => self.one = None,

@@ -1,49 +1,43 @@
 //! How many ticks an order takes.
 
-ghost use Rattle.std.specs.Prelude.{◌≡◌, ◌≤◌, true};
-ghost use Rattle.head.specs.Orders.{parts, all_in_range};
+ghost use Rattle.std.specs.Prelude.{◌≡◌, ◌≤◌, Some};
+ghost use Rattle.head.specs.Settings.{position};
 ghost use Rattle.head.specs.Values.{value_of};
-ghost use Rattle.heads.specs.Exact.{ticks_on as ticks_on_axis, ticks_of};
+ghost use Rattle.heads.specs.Motion.{step as step_of};
+ghost use Rattle.heads.specs.Exact.{ticks_to as ticks_to_target, ticks_on as ticks_on_axis, ticks_of};
 
 use crate::motion::{Motion, step};
-use head::{Axis, Order, Settings};
+use crate::rig::Rig;
+use head::{Axis, Order, Paces};
 
-// The ticks that the order takes on one axis, 0 if it does not name its position.
-fn ticks_on(settings: &Settings, order: Order, axis: Axis) -> u16
-    requires { all_in_range (parts order.targets) ≡ true }
-    ensures is { result ≡ ticks_on_axis (value_of settings.now) order axis }
-    ensures few { result ≤ 640 }
-{
-    match order.target(axis.position()) {
-        Some(target) => {
-            let distance = settings.get(axis.position()).abs_diff(target);
-            distance.div_ceil(step(order.paces, axis) as u32) as u16
-        }
-        None => 0,
+impl Rig {
+    // The ticks that an order with these paces takes on one axis.
+    fn ticks_to(&self, paces: Paces, axis: Axis, target: i32) -> u32
+        ensures { result ≡ ticks_to_target (step_of paces axis) (value_of self.now.settings (position axis)) (Some target) }
+    {
+        let distance = self.settings.get(axis.position()).abs_diff(target);
+        distance.div_ceil(u32::from(step(paces, axis)))
     }
-}
 
-/// The ticks that an order takes from where the settings stand.
-pub(crate) fn ticks(motion: Motion, settings: &Settings, order: Order) -> u16
-    requires { all_in_range (parts order.targets) ≡ true }
-    ensures is { result ≡ ticks_of motion (value_of settings.now) order }
-    ensures some { 1 ≤ result }
-    ensures few { result ≤ 1000 }
-{
-    match motion {
-        Motion::AtOnce => 1,
-        Motion::Stepwise | Motion::Stalled => {
-            let lens = ticks_on(settings, order, Axis::Zoom).max(ticks_on(
-                settings,
-                order,
-                Axis::Focus,
-            ));
-            let turn = ticks_on(settings, order, Axis::Pan).max(ticks_on(
-                settings,
-                order,
-                Axis::Tilt,
-            ));
-            lens.max(turn).max(1)
+    // The ticks that the order takes on one axis, 0 if it does not name its position.
+    fn ticks_on(&self, order: Order, axis: Axis) -> u32
+        ensures { result ≡ ticks_on_axis (value_of self.now.settings) order axis }
+    {
+        order
+            .target(axis.position())
+            .map_or(0, |target| self.ticks_to(order.paces, axis, target))
+    }
+
+    /// The ticks that an order takes from where the settings stand.
+    pub(crate) fn ticks(&self, order: Order) -> u32
+        ensures is { result ≡ ticks_of self.now.motion (value_of self.now.settings) order }
+        ensures some { 1 ≤ result }
+    {
+        match self.motion {
+            Motion::AtOnce => 1,
+            Motion::Stepwise | Motion::Stalled => Axis::ALL
+                .iter()
+                .fold(1, |most, axis| most.max(self.ticks_on(order, *axis))),
         }
     }
 }

@@ -15,11 +15,11 @@ loop-setting-preserved c =
     let k = c.loop-setting.setting-index in
     let x = get_or all k Power in
     let f : SFits w32 c.next.result = search rules in
-    let v : to_z w32 (of_z w32 c.next.result) ≡ next c.args.motion (slots_of rig) c.args.endings (value_of rig.settings) x = to_z-of_z w32 c.next.result f ∙ c.next.ensures in
+    let v : to_z w32 (of_z w32 c.next.result) ≡ next rig.motion (slots_of rig) c.args.endings (value_of rig.settings) x = to_z-of_z w32 c.next.result f ∙ c.next.ensures in
     let t = c.set.ensures.taken
-    ∙ subst (λ (w : ℤ). in_range x w ≡ true) (sym v) (next_in_range c.args.motion rig.one rig.two c.args.endings (value_of rig.settings) x (rig.settings.ranged x)) in
+    ∙ subst (λ (w : ℤ). in_range x w ≡ true) (sym v) (next_in_range rig.motion rig.one rig.two c.args.endings (value_of rig.settings) x (rig.settings.ranged x)) in
     passed_more k x (is_ok c.set.result) (to_z w32 (of_z w32 c.next.result)) (value_of c.loop-setting.settings) (value_of c.set.new.self)
-    (next c.args.motion (slots_of rig) c.args.endings (value_of rig.settings))
+    (next rig.motion (slots_of rig) c.args.endings (value_of rig.settings))
     (number_at k c.loop-setting-test.true) t v c.set.ensures.values c.loop-setting.invariant
 
 pub returns : goal.returns

@@ -1,0 +1,74 @@
+//! A rig with its gear, which is a head.
+
+ghost use Rattle.std.specs.Prelude.{◌≡◌, true, false};
+ghost use Rattle.head.specs.Values.{value_of};
+ghost use Rattle.head.specs.Meaning.{busy, put, answered, Started, Ticked, Dropped};
+ghost use Rattle.heads.specs.declared.motion.Motion.TheVariants.{Stepwise};
+ghost use Rattle.heads.specs.Exact.{Ran};
+ghost use Rattle.heads.specs.Rigs.{means, slots_of};
+ghost use Rattle.heads.specs.Punctual.{OnTime, is_jammed};
+ghost use Rattle.std.proofs.Common.{rules};
+
+use crate::gear::Gear;
+use crate::rig::Rig;
+use head::{Endings, Head, Look, Order, Refusal};
+
+/// Settings, slots and the gear; and where that moves by steps, every order arrives within its
+/// ticks.
+#[derive(Drop)]
+pub struct Geared<G: Gear> {
+    pub(crate) gear: G,
+    pub(crate) rig: Rig,
+    ghost moves: { rig.motion ≡ G.motion gear },
+    ghost on_time: { G.motion gear ≡ Stepwise → OnTime (means G.PAN_TILT rig) },
+}
+
+impl<G: Gear> Look for Geared<G> {
+    ghost setting = { λ h. value_of h.rig.settings };
+
+    ghost pantilt = { λ h. G.PAN_TILT };
+
+    ghost ranged = { Prim.search rules };
+
+    fn look(&self, number: u8) -> Option<i32> {
+        self.rig.look(number)
+    }
+
+    fn has_pan_tilt(&self) -> bool {
+        G::PAN_TILT
+    }
+}
+
+impl<G: Gear> Head for Geared<G> {
+    ghost slots = { λ h. slots_of h.rig };
+
+    ghost timed = { Prim.search rules };
+
+    fn ticks_left(&self, slot: u8) -> u16 {
+        self.rig.ticks_left(slot)
+    }
+
+    fn start(&mut self, slot: u8, order: Order) -> Result<(), Refusal>
+        ensures started { Started (means G.PAN_TILT self.old.rig) slot order (answered result) (means G.PAN_TILT self.new.rig) }
+        ensures ticks { answered result ≡ 0 → slots_of self.new.rig ≡ put (slots_of self.old.rig) slot (busy order (G.ticks (value_of self.old.rig.settings) order)) }
+        ensures gear { self.new.gear ≡ self.old.gear }
+    {
+        self.rig.start(G::PAN_TILT, slot, order)
+    }
+
+    fn tick(&mut self) -> Endings
+        ensures lawful { Ticked (means G.PAN_TILT self.old.rig) result (means G.PAN_TILT self.new.rig) }
+        ensures exact { Ran (G.motion self.old.gear) (means G.PAN_TILT self.old.rig) result (means G.PAN_TILT self.new.rig) }
+        ensures arrives { G.motion self.old.gear ≡ Stepwise → (is_jammed result.one ≡ false) × (is_jammed result.two ≡ false) }
+        ensures gear { self.new.gear ≡ self.old.gear }
+    {
+        self.rig.tick()
+    }
+
+    fn drop_slot(&mut self, slot: u8)
+        ensures dropped { Dropped (means G.PAN_TILT self.old.rig) slot (means G.PAN_TILT self.new.rig) }
+        ensures gear { self.new.gear ≡ self.old.gear }
+    {
+        self.rig.drop_slot(slot)
+    }
+}
