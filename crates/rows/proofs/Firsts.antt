@@ -1,45 +1,66 @@
--- The first element that passes, from what is known of each place.
-use Rattle.std.proofs.Common.{◌≡◌, ℕ, zero, suc, ◌-◌, ◌<◌, ◌≤◌, Bool, true, false, List, [], ◌∷◌, length, get_or, take, drop, Some, None, Option, Result, sym, refl, ap, ◌∙◌, arith}
-use Rattle.std.proofs.lemmas.List.{take_all, get_or_read}
-use Rattle.std.proofs.lemmas.Bool.{or_left, or_right}
-use Rattle.rows.specs.declared.fault.RowFault.{RowFault}
-use Rattle.rows.specs.Search.{meaning, first_of, any_of, found_or, found}
+-- The first element that f gives something for, as a loop over numbered elements finds it.
+use Rattle.std.proofs.Common.{◌≡◌, ℕ, zero, suc, ◌+◌, ◌<◌, ◌≤◌, true, List, [], ◌∷◌, length, get_or, IfSome, IsSomeAnd, MatchOption, IsTrue, Some, None, Err, Ok, Option, Result, Bor, sym, refl, ap, ◌∙◌, subst, arith}
+use denote.Param.Members.{Mut}
+use Rattle.std.specs.Fn.{Called}
+use Rattle.std.specs.Iterator.Runs.{Run, ProjectsRun, ItemsMapTo, AllItemsGive, IsFirstToGive}
+use Rattle.std.specs.Option.{option_map, ok_or}
+use Rattle.std.specs.Result.{IsErrAnd}
+use Rattle.head.proofs.Options.{no_some, some_out}
+use Rattle.rows.specs.Search.{first_of}
 
-pub first_found : {X M : Type 0} (f : X → Option M) (xs : List X) (i : ℕ) (m : M) → i < length xs → ((d : X) → f (get_or xs i d) ≡ Some m)
-    → ((k : ℕ) (d : X) → k < i → f (get_or xs k d) ≡ None) → Some (i, m) ≡ first_of f xs
-first_found f [] i m l t n = absurd (omega arith)
-first_found f (x ∷ xs) zero m l t n = simp (t x)
-first_found f (x ∷ xs) (suc i) m l t n =
-    simp (n 0 x (omega arith), sym (first_found f xs i m (omega arith) t (λ k d h. n (suc k) d (omega arith))))
+module _ {X M : Type 0} (f : X → Option M) where
+  found : (xs : List X) (i : ℕ) (m : M) → i < length xs → ((d : X) → f (get_or xs i d) ≡ Some m) → ((k : ℕ) (d : X) → k < i → f (get_or xs k d) ≡ None) → Some (i, m) ≡ first_of f xs
+  found [] i m l t n = absurd (omega arith)
+  found (x ∷ xs) zero m l t n = simp (t x)
+  found (x ∷ xs) (suc i) m l t n = simp (n 0 x (omega arith), sym (found xs i m (omega arith) t (λ k d h. n (suc k) d (omega arith))))
 
-pub first_missed : {X M : Type 0} (f : X → Option M) (xs : List X) → ((k : ℕ) (d : X) → k < length xs → f (get_or xs k d) ≡ None) → None ≡ first_of f xs
-first_missed f [] n = refl
-first_missed f (x ∷ xs) n = simp (n 0 x (omega arith), sym (first_missed f xs (λ k d h. n (suc k) d (omega arith))))
+  missed : (xs : List X) → ((k : ℕ) (d : X) → k < length xs → f (get_or xs k d) ≡ None) → None ≡ first_of f xs
+  missed [] n = refl
+  missed (x ∷ xs) n = simp (n 0 x (omega arith), sym (missed xs (λ k d h. n (suc k) d (omega arith))))
 
-pub any_found : {X : Type 0} (p : X → Bool) (xs : List X) (i : ℕ) → i < length xs → ((d : X) → p (get_or xs i d) ≡ true) → true ≡ any_of p xs
-any_found p [] i l t = absurd (omega arith)
-any_found p (x ∷ xs) zero l t = sym (or_left (p x) (any_of p xs) (t x))
-any_found p (x ∷ xs) (suc i) l t = sym (or_right (p x) (any_of p xs) (sym (any_found p xs i (omega arith) t)))
+  -- an answer with the number of its element
+  abbrev numbered : ℕ → Option M → Option (ℕ × M)
+  numbered i o = option_map {U = ℕ × M} (λ m. (i, m)) o
 
-pub any_missed : {X : Type 0} (p : X → Bool) (xs : List X) → ((k : ℕ) (d : X) → k < length xs → p (get_or xs k d) ≡ false) → false ≡ any_of p xs
-any_missed p [] n = refl
-any_missed p (x ∷ xs) n = simp (n 0 x (omega arith)) (any_missed p xs (λ k d h. n (suc k) d (omega arith)))
+  nothing : (o : Option M) (i : ℕ) → None ≡ numbered i o → o ≡ None
+  nothing None i e = refl
+  nothing (Some m) i e = no_some e
 
--- the same, where a loop stands at the element x
+  something : (o : Option M) (i : ℕ) (y : ℕ × M) → Some y ≡ numbered i o → (m : M) × (o ≡ Some m) × (y ≡ (i, m))
+  something None i y e = no_some (sym e)
+  something (Some m) i y e = (m, refl, some_out e)
 
-pub first_at : {X M : Type 0} (f : X → Option M) (xs : List X) (i : ℕ) (x : X) (m : M) → i < length xs → x ≡ get_or xs i x → Some m ≡ f x
-    → ((k : ℕ) (d : X) → k < i → f (get_or xs k d) ≡ None) → Some (i, m) ≡ first_of f xs
-first_at f xs i x m l e t n = first_found f xs i m l (λ d. ap f (sym (get_or_read xs i x l e d)) ∙ sym t) n
+  -- the numbered element at a place, of which P holds
+  at_place : (xs : List X) (P : ℕ × Bor X → Type 0) (o : Option (ℕ × Bor X)) (k : ℕ) → X → IfSome o P → IfSome o (λ x. x.0 ≡ k)
+      → ((d : X) → option_map (λ y. y.now) (option_map (λ x. x.1) o) ≡ Some (get_or xs k d)) → (x : ℕ × Bor X) × P x × (x.0 ≡ k) × ((d : X) → x.1.now ≡ get_or xs k d)
+  at_place xs P None k d p n e = no_some (e d)
+  at_place xs P (Some x) k d p n e = (x, p, n, λ d. some_out (e d))
 
-pub any_at : {X : Type 0} (p : X → Bool) (xs : List X) (i : ℕ) (x : X) → i < length xs → x ≡ get_or xs i x → true ≡ p x → true ≡ any_of p xs
-any_at p xs i x l e t = any_found p xs i l (λ d. ap p (sym (get_or_read xs i x l e d)) ∙ sym t)
+  some_at : (P : ℕ × Bor X → Type 0) (o : Option (ℕ × Bor X)) → IsSomeAnd o P → X × IfSome o P
+  some_at P None h = absurd h
+  some_at P (Some x) h = (x.1.now, h)
 
--- a body of two bytes and more is its category, its code and its operands
-pub found_parts : {X M : Type 0} (has : X → ℕ → ℕ → Bool) (reads : X → ℕ → List ℕ → Option M) (rows : List X) (b : List ℕ) (r : Result (ℕ × M) RowFault) → 2 ≤ length b
-    → r ≡ found_or (first_of (meaning has reads (get_or b 0 0) (get_or b 1 0) (take (length b - 2) (drop 2 b))) rows) (any_of (λ x. has x (get_or b 0 0) (get_or b 1 0)) rows)
-    → r ≡ found has reads rows b
-found_parts has reads rows [] r h e = absurd (omega arith)
-found_parts has reads rows (k ∷ []) r h e = absurd (omega arith)
-found_parts has reads rows (k ∷ c ∷ os) r h e =
-    let n : length (k ∷ c ∷ os) - 2 ≡ length os = omega arith in
-    e ∙ ap (λ (w : List ℕ). found_or (first_of (meaning has reads k c w) rows) (any_of (λ x. has x k c) rows)) (ap (λ (j : ℕ). take j os) n ∙ take_all (length os) os (omega arith))
+  module _ {S T F : Type 0} {steps : S → Option (ℕ × Bor X) → S → Type 0} {source : T → Option (Bor X) → T → Type 0} (xs : List X)
+      (g : Mut F ((ℕ × Bor X) × Unit {0}) (Option (ℕ × M))) (c : F)
+      (calls : (x : ℕ × Bor X) (r : Option (ℕ × M)) (c' : F) → Called g c (x, tt) r c' → (c' ≡ c) × (r ≡ numbered x.0 (f x.1.now)))
+      (p : Run steps) (q : Run source) (numbers : (k : ℕ) → IfSome (p.at k) (λ x. x.0 ≡ k)) (behind : ProjectsRun p q (λ x. x.1)) (items : ItemsMapTo q (λ y. y.now) xs) where
+    element : (k : ℕ) → k < p.len → (P : ℕ × Bor X → Type 0) → X → IfSome (p.at k) P → (x : ℕ × Bor X) × P x × (x.0 ≡ k) × ((d : X) → x.1.now ≡ get_or xs k d)
+    element k l P d h = at_place xs P (p.at k) k d h (numbers k) (λ d. ap (option_map (λ y. y.now)) (sym (behind.2 k)) ∙ items.2 k d (omega (arith, behind.0)))
+
+    passed : (k : ℕ) (d : X) → k < p.len → IfSome (p.at k) (λ x. Called g c (x, tt) None c) → f (get_or xs k d) ≡ None
+    passed k d l h = let (x, a, n, e) = element k l (λ x. Called g c (x, tt) None c) d h in ap f (sym (e d)) ∙ nothing (f x.1.now) x.0 (calls x None c a).1
+
+    -- what `find_map` gives over them
+    pub first_by_run : (r : Option (ℕ × M)) → q.whole ≡ p.whole → MatchOption r (IsTrue p.whole × AllItemsGive p g c None) (λ y. (i : ℕ) × (i < p.len) × (p.len ≡ i + 1) × IsFirstToGive p g c (Some y) None i) → r ≡ first_of f xs
+    first_by_run None w h =
+        let all = h.1 (λ a r c' b. (calls a.0 r c' b).0) in
+        let n = items.1 (w ∙ h.0) in
+        missed xs (λ k d l. passed k d (omega (arith, behind.0)) (all k))
+    first_by_run (Some y) w h =
+        let (i, l, len, first) = h in
+        let b = first (λ a r c' b. (calls a.0 r c' b).0) in
+        let s = some_at (λ x. Called g c (x, tt) (Some y) c) (p.at i) b.0 in
+        let (x, a, n, e) = element i l (λ x. Called g c (x, tt) (Some y) c) s.0 s.1 in
+        let (m, o, z) = something (f x.1.now) x.0 y (calls x (Some y) c a).1 in
+        let before : (k : ℕ) (d : X) → k < i → f (get_or xs k d) ≡ None = λ k d j. passed k d (omega arith) (some_at (λ x. Called g c (x, tt) None c) (p.at k) (b.1 k j)).1 in
+        ap Some z ∙ ap (λ (k : ℕ). Some (k, m)) n ∙ found xs i m (omega (arith, behind.0, items.0)) (λ d. ap f (sym (e d)) ∙ o) before

@@ -1,27 +1,21 @@
 -- The command rows, and what a command is read as.
-use Rattle.std.specs.Prelude.{ℕ, Bool, ◌&&◌, List, [], ◌∷◌, is_some, Option, Result, ◌==◌}
+use Rattle.std.specs.Prelude.{ℕ, List, [], ◌∷◌, Result}
 use Rattle.head.specs.declared.order.Order.{Order}
 use Rattle.head.specs.declared.setting.Axis.TheVariants as axis
 use Rattle.head.specs.declared.setting.Setting.TheVariants.{Power, ZoomDrive, FocusDrive, Zoom, Focus, Identity, PanDrive, Pan}
-use Rattle.rows.specs.declared.codes.Codes.{Codes}
 use Rattle.rows.specs.declared.codes.Codes.TheVariants.{One, Modes, Levels}
-use Rattle.rows.specs.declared.commands.CommandRow.{CommandRow}
 use Rattle.rows.specs.declared.fault.RowFault.{RowFault}
 use Rattle.rows.specs.declared.operands.Operands.{Operands}
 use Rattle.rows.specs.declared.operands.Operands.TheVariants.{Digit, Drive, Position, PositionAtSpeed, Level, Number, PanTiltDrive, PanTilt, Home}
 use Rattle.rows.specs.declared.operands.Sense.TheVariants.{Up, Down}
-use Rattle.rows.specs.Codes.{setting_of}
-use Rattle.rows.specs.Reading.{bind, reads}
+use Rattle.rows.specs.declared.table.TableRow.{TableRow}
+use Rattle.rows.specs.Reading.{reads}
+use Rattle.rows.specs.Rows.{row, row_has, row_reads}
 use Rattle.rows.specs.Search.{found}
 
-abbrev pub row_has : CommandRow → ℕ → ℕ → Bool
-row_has r k c = k == r.category && is_some (setting_of r.codes c)
-
-abbrev pub row_reads : CommandRow → ℕ → List ℕ → Option Order
-row_reads r c os = bind (setting_of r.codes c) (λ s. reads r.operands s os)
-
-abbrev row : ℕ → Codes → Operands → CommandRow
-row k cs os = record { category = k; codes = cs; operands = os }
+-- a row that makes orders
+abbrev pub CommandRow : Type 0
+CommandRow = TableRow Operands
 
 abbrev pub commands : List CommandRow
 commands =
@@ -41,4 +35,4 @@ commands =
 
 -- what a command is read as, behind its first byte; shut, since the table is long
 unfoldable pub read_command : List ℕ → Result (ℕ × Order) RowFault
-read_command body = found row_has row_reads commands body
+read_command body = found row_has (row_reads reads) commands body

@@ -1,8 +1,11 @@
 -- Numbers as packets have them: digits of four bits, one to a byte, highest first.
-use Rattle.std.specs.Prelude.{ℕ, ◌+◌, ◌-◌, ◌*◌, ◌/◌, ◌%◌, cond, ◌&&◌, List, [], ◌∷◌, ℤ, pos, negsuc, Some, None, Option, nat_lt}
+use Rattle.std.specs.Prelude.{ℕ, ◌+◌, ◌-◌, ◌*◌, ◌/◌, ◌%◌, cond, ◌&&◌, List, [], ◌∷◌, ℤ, pos, negsuc, Some, None, Option, nat_lt, slice_index}
 
-abbrev pub word : ℕ → ℕ → ℕ → ℕ → Option ℕ
-word p q r s = cond (nat_lt p 16 && nat_lt q 16 && nat_lt r 16 && nat_lt s 16) (Some (p * 4096 + q * 256 + r * 16 + s)) None
+-- the number of four digits
+abbrev pub word : List ℕ → Option ℕ
+word ds =
+    let p = slice_index ds 0 in let q = slice_index ds 1 in let r = slice_index ds 2 in let s = slice_index ds 3 in
+    cond (nat_lt p 16 && nat_lt q 16 && nat_lt r 16 && nat_lt s 16) (Some (p * 4096 + q * 256 + r * 16 + s)) None
 
 -- sixteen bits in two's complement, and back
 abbrev pub signed : ℕ → ℤ

@@ -1,29 +1,25 @@
 -- The inquiry rows, and what an inquiry is read as.
-use Rattle.std.specs.Prelude.{ℕ, Bool, ◌&&◌, List, [], ◌∷◌, is_some, Some, Option, Result, ◌==◌}
+use Rattle.std.specs.Prelude.{ℕ, cond, List, [], ◌∷◌, length, Some, None, Option, Result, ◌==◌}
 use Rattle.head.specs.declared.setting.Setting.{Setting}
 use Rattle.head.specs.declared.setting.Setting.TheVariants.{Power, Zoom, Focus, Identity, Pan}
-use Rattle.rows.specs.declared.codes.Codes.{Codes}
 use Rattle.rows.specs.declared.codes.Codes.TheVariants.{One, Modes, Levels}
 use Rattle.rows.specs.declared.fault.RowFault.{RowFault}
 use Rattle.rows.specs.declared.inquiries.Form.{Form}
 use Rattle.rows.specs.declared.inquiries.Form.TheVariants.{Digit, Level, Number, PanTilt}
 use Rattle.rows.specs.declared.inquiries.Inquiry.{Inquiry}
-use Rattle.rows.specs.declared.inquiries.InquiryRow.{InquiryRow}
-use Rattle.rows.specs.Codes.{setting_of}
-use Rattle.rows.specs.Reading.{bind, none_of}
+use Rattle.rows.specs.declared.table.TableRow.{TableRow}
+use Rattle.rows.specs.Rows.{row, row_has, row_reads}
 use Rattle.rows.specs.Search.{found}
 
 abbrev pub asks : Setting → Form → Inquiry
 asks s f = record { setting = s; form = f }
 
-abbrev pub row_has : InquiryRow → ℕ → ℕ → Bool
-row_has r k c = k == r.category && is_some (setting_of r.codes c)
+-- an inquiry has no operands
+abbrev pub asked : Form → Setting → List ℕ → Option Inquiry
+asked f s os = cond (length os == 0) (Some (asks s f)) None
 
-abbrev pub row_reads : InquiryRow → ℕ → List ℕ → Option Inquiry
-row_reads r c os = bind (setting_of r.codes c) (λ s. none_of (Some (asks s r.form)) os)
-
-abbrev row : ℕ → Codes → Form → InquiryRow
-row k cs f = record { category = k; codes = cs; form = f }
+abbrev pub InquiryRow : Type 0
+InquiryRow = TableRow Form
 
 abbrev pub inquiries : List InquiryRow
 inquiries =
@@ -38,4 +34,4 @@ inquiries =
 
 -- what an inquiry is read as, behind its first byte; shut, since the table is long
 unfoldable pub read_inquiry : List ℕ → Result (ℕ × Inquiry) RowFault
-read_inquiry body = found row_has row_reads inquiries body
+read_inquiry body = found row_has (row_reads asked) inquiries body

@@ -2,6 +2,7 @@ pub mod Search
 pub mod Digits
 pub mod Codes
 pub mod Reading
+pub mod Rows
 pub mod Commands
 pub mod Inquiries
 pub mod Requests

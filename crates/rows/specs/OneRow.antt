@@ -3,21 +3,22 @@ use Rattle.std.specs.Prelude.{◌≡◌, ℕ, ◌<◌, true, List, [], ◌∷◌
 use Rattle.head.specs.declared.order.Order.{Order}
 use Rattle.head.specs.declared.setting.Setting.TheVariants.{Pan}
 use Rattle.rows.specs.declared.codes.Codes.TheVariants.{One}
-use Rattle.rows.specs.declared.commands.CommandRow.{CommandRow}
 use Rattle.rows.specs.declared.fault.RowFault.{RowFault}
 use Rattle.rows.specs.declared.operands.Operands.TheVariants.{Home}
-use Rattle.rows.specs.Commands.{row_has, row_reads, commands}
+use Rattle.rows.specs.Commands.{CommandRow, commands}
+use Rattle.rows.specs.Reading.{reads}
+use Rattle.rows.specs.Rows.{row_has, row_reads}
 use Rattle.rows.specs.Search.{meaning}
 
 -- the command row at a place, from 0; past the last, the last
 abbrev pub row_at : ℕ → CommandRow
-row_at i = slice_index_or commands i (record { category = 0x06; codes = One 0x04 Pan; operands = Home })
+row_at i = slice_index_or commands i (record { category = 0x06; codes = One 0x04 Pan; form = Home })
 
 -- the order that the row at a place makes of a command, behind its first byte, if it admits it
 abbrev pub admitted_by : ℕ → List ℕ → Option Order
 admitted_by i [] = None
 admitted_by i (k ∷ []) = None
-admitted_by i (k ∷ c ∷ os) = meaning row_has row_reads k c os (row_at i)
+admitted_by i (k ∷ c ∷ os) = meaning row_has (row_reads reads) k c os (row_at i)
 
 -- the row at place i admits the command as order o, and no other row admits it
 pub record ReadByOne (body : List ℕ) (i : ℕ) (o : Order) : Type 0 where

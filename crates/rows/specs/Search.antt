@@ -1,5 +1,7 @@
 -- The row search: the first row that admits a body; and if none does, whether some row has its category and code.
-use Rattle.std.specs.Prelude.{ℕ, suc, Bool, false, cond, ◌||◌, List, [], ◌∷◌, Some, None, Ok, Err, Option, Result}
+use Rattle.std.specs.Prelude.{ℕ, suc, Bool, cond, List, [], ◌∷◌, Some, None, Err, Option, Result}
+use Rattle.std.specs.List.{list_any}
+use Rattle.std.specs.Option.{ok_or}
 use Rattle.rows.specs.declared.fault.RowFault.{RowFault}
 use Rattle.rows.specs.declared.fault.RowFault.TheVariants.{NoSuchCode, NoSuchOperands}
 use Rattle.wire.specs.declared.fault.FaultCode.{FaultCode}
@@ -20,18 +22,14 @@ abbrev pub first_of : {X M : Type 0} → (X → Option M) → List X → Option 
 first_of f [] = None
 first_of f (x ∷ xs) = first_or (f x) (first_of f xs)
 
-abbrev pub any_of : {X : Type 0} → (X → Bool) → List X → Bool
-any_of p [] = false
-any_of p (x ∷ xs) = p x || any_of p xs
-
-abbrev pub found_or : {M : Type 0} → Option (ℕ × M) → Bool → Result (ℕ × M) RowFault
-found_or (Some p) known = Ok p
-found_or None known = Err (cond known NoSuchOperands NoSuchCode)
+-- where no row admits a body: whether some row has its category and code
+abbrev pub fault_of : Bool → RowFault
+fault_of known = cond known NoSuchOperands NoSuchCode
 
 abbrev pub found : {X M : Type 0} → (X → ℕ → ℕ → Bool) → (X → ℕ → List ℕ → Option M) → List X → List ℕ → Result (ℕ × M) RowFault
 found has reads rows [] = Err NoSuchCode
 found has reads rows (k ∷ []) = Err NoSuchCode
-found has reads rows (k ∷ c ∷ os) = found_or (first_of (meaning has reads k c os) rows) (any_of (λ x. has x k c) rows)
+found has reads rows (k ∷ c ∷ os) = ok_or (first_of (meaning has reads k c os) rows) (fault_of (list_any (λ x. has x k c) rows))
 
 -- each fault's number, layer and place
 abbrev pub code_of : RowFault → FaultCode

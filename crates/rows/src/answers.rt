@@ -3,7 +3,7 @@
 ghost use Rattle.std.specs.Prelude.{◌≡◌};
 ghost use Rattle.rows.specs.Answers.{looked_digits, answered, pan_tilt_answered, sent as sent_into, count_of};
 
-use crate::digits::{bits, digits};
+use crate::digits::digits;
 use crate::inquiries::{Form, Inquiry};
 use head::{Look, Setting};
 use wire::send_at;
@@ -12,10 +12,7 @@ use wire::send_at;
 fn shown<L: Look>(from: &L, setting: Setting) -> [u8; 4]
     ensures { result ≡ looked_digits (L.Look.setting from.now) setting }
 {
-    match from.look(setting.number()) {
-        Some(value) => digits(bits(value)),
-        None => [0; 4],
-    }
+    from.look(setting.number()).map_or([0; 4], digits)
 }
 
 // Pan and tilt in eight digits, or error 41 without them.

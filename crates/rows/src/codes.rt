@@ -1,7 +1,7 @@
 //! The codes of rows, and the settings that they stand for.
 
 ghost use Rattle.std.specs.Prelude.{◌≡◌};
-ghost use Rattle.rows.specs.Codes.{setting_of};
+ghost use Rattle.rows.specs.Codes.{coded as coded_by, setting_of};
 
 use head::Setting;
 
@@ -16,32 +16,29 @@ pub enum Codes {
     Levels,
 }
 
-fn mode(code: u8) -> Option<Setting>
-    ensures { result ≡ setting_of Codes.Modes code }
-{
-    match code {
-        0x38 => Some(Setting::FocusMode),
-        0x35 => Some(Setting::WhiteBalance),
-        0x39 => Some(Setting::ExposureMode),
-        0x62 => Some(Setting::Freeze),
-        0x75 => Some(Setting::Mute),
-        0x01 => Some(Setting::Infrared),
-        _ => None,
-    }
-}
+const MODES: [(u8, Setting); 6] = [
+    (0x38, Setting::FocusMode),
+    (0x35, Setting::WhiteBalance),
+    (0x39, Setting::ExposureMode),
+    (0x62, Setting::Freeze),
+    (0x75, Setting::Mute),
+    (0x01, Setting::Infrared),
+];
 
-fn level(code: u8) -> Option<Setting>
-    ensures { result ≡ setting_of Codes.Levels code }
+const LEVELS: [(u8, Setting); 6] = [
+    (0x43, Setting::RedGain),
+    (0x44, Setting::BlueGain),
+    (0x4a, Setting::Shutter),
+    (0x4b, Setting::Iris),
+    (0x4c, Setting::Gain),
+    (0x4d, Setting::Bright),
+];
+
+// The setting that stands beside a code.
+fn coded(pairs: &[(u8, Setting)], code: u8) -> Option<Setting>
+    ensures { result ≡ coded_by pairs.now code }
 {
-    match code {
-        0x43 => Some(Setting::RedGain),
-        0x44 => Some(Setting::BlueGain),
-        0x4a => Some(Setting::Shutter),
-        0x4b => Some(Setting::Iris),
-        0x4c => Some(Setting::Gain),
-        0x4d => Some(Setting::Bright),
-        _ => None,
-    }
+    pairs.iter().find(|pair| code == pair.0).map(|pair| pair.1)
 }
 
 impl Codes {
@@ -50,9 +47,9 @@ impl Codes {
         ensures { result ≡ setting_of self code }
     {
         match self {
-            Codes::One(one, setting) => { if code == one { Some(setting) } else { None } }
-            Codes::Modes => mode(code),
-            Codes::Levels => level(code),
+            Codes::One(one, setting) => coded(&[(one, setting)], code),
+            Codes::Modes => coded(&MODES, code),
+            Codes::Levels => coded(&LEVELS, code),
         }
     }
 }

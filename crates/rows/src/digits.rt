@@ -5,42 +5,34 @@ ghost use Rattle.head.specs.Settings.{Small};
 ghost use Rattle.rows.specs.Digits.{word as word_of, signed as signed_of, bits as bits_of, digits as digits_of};
 
 /// The number of four digits; none if a byte is no digit.
-pub(crate) fn word(p: u8, q: u8, r: u8, s: u8) -> Option<u16>
-    ensures { result ≡ word_of p q r s }
+pub(crate) fn word(digits: [u8; 4]) -> Option<u16>
+    ensures { result ≡ word_of digits }
 {
-    if p > 15 || q > 15 || r > 15 || s > 15 {
-        return None;
+    match digits.map(u16::from) {
+        [p @ 0..=15, q @ 0..=15, r @ 0..=15, s @ 0..=15] => Some(p * 4096 + q * 256 + r * 16 + s),
+        _ => None,
     }
-    Some(p as u16 * 4096 + q as u16 * 256 + r as u16 * 16 + s as u16)
 }
 
 /// Sixteen bits in two's complement.
 pub(crate) fn signed(n: u16) -> i32
     ensures { result ≡ signed_of n }
 {
-    if n < 0x8000 {
-        n as i32
-    } else {
-        n as i32 - 0x1_0000
-    }
+    i32::from(n.cast_signed())
 }
 
-/// And back: the sixteen bits of a value.
-pub(crate) fn bits(value: i32) -> u16
-    requires { Small value }
-    ensures { result ≡ bits_of value }
+// And back: the sixteen bits of a value.
+fn bits(value: i32) -> u16
+    ensures { Small value → result ≡ bits_of value }
 {
-    if value < 0 {
-        (value + 0x1_0000) as u16
-    } else {
-        value as u16
-    }
+    value.rem_euclid(0x1_0000) as u16
 }
 
-/// The four digits of a number.
-pub(crate) fn digits(n: u16) -> [u8; 4]
-    ensures { result ≡ digits_of n }
+/// The four digits of a value.
+pub(crate) fn digits(value: i32) -> [u8; 4]
+    ensures { Small value → result ≡ digits_of (bits_of value) }
 {
+    let n = bits(value);
     [
         (n / 4096) as u8,
         (n / 256 % 16) as u8,

@@ -1,15 +1,18 @@
 //! The inquiry rows: what packets ask of whatever can be looked at.
 
 ghost use Rattle.std.specs.Prelude.{◌≡◌};
-ghost use Rattle.rows.specs.Inquiries.{row_has, row_reads, inquiries, read_inquiry as inquiry_read};
+ghost use Rattle.rows.specs.Inquiries.{asked, read_inquiry as inquiry_read};
 
-use crate::codes::Codes;
+use crate::codes::Codes::{Levels, Modes, One};
 use crate::fault::RowFault;
-use crate::row::{Row, find_row};
+use crate::operands::OperandForm;
+use crate::row::find_row;
+use crate::table::{TableRow, row};
 use head::Setting;
+use head::Setting::{Focus, Identity, Pan, Power, Zoom};
 
 /// How an inquiry is answered.
-#[derive(Clone, Copy)]
+#[derive(Clone, Copy, PartialEq, Eq, Debug)]
 pub enum Form {
     /// `0p`
     Digit,
@@ -28,94 +31,45 @@ pub struct Inquiry {
     pub form: Form,
 }
 
-/// A row of the inquiry table.
-#[derive(Clone, Copy)]
-pub struct InquiryRow {
-    pub category: u8,
-    pub codes: Codes,
-    pub form: Form,
-}
-
-impl Row for InquiryRow {
+// An inquiry has no operands.
+impl OperandForm for Form {
     type Meaning = Inquiry;
 
-    ghost has = { row_has };
+    ghost reads = { asked };
 
-    ghost reads = { row_reads };
-
-    fn covers(&self, category: u8, code: u8) -> bool {
-        category == self.category && self.codes.setting(code).is_some()
-    }
-
-    fn read(&self, code: u8, operands: &[u8]) -> Option<Inquiry> {
-        let setting = self.codes.setting(code)?;
-        match operands {
-            [] => Some(Inquiry {
-                setting,
-                form: self.form,
-            }),
-            _ => None,
-        }
+    fn read(&self, setting: Setting, operands: &[u8]) -> Option<Inquiry> {
+        operands.is_empty().then_some(Inquiry {
+            setting,
+            form: *self,
+        })
     }
 }
+
+/// A row of the inquiry table.
+pub type InquiryRow = TableRow<Form>;
 
 /// The inquiry rows, in the order in which they are tried.
 pub const INQUIRIES: [InquiryRow; 7] = [
     // power
-    InquiryRow {
-        category: 0x04,
-        codes: Codes::One(0x00, Setting::Power),
-        form: Form::Digit,
-    },
+    row!(0x04, One(0x00, Power), Form::Digit),
     // zoom
-    InquiryRow {
-        category: 0x04,
-        codes: Codes::One(0x47, Setting::Zoom),
-        form: Form::Number,
-    },
+    row!(0x04, One(0x47, Zoom), Form::Number),
     // focus
-    InquiryRow {
-        category: 0x04,
-        codes: Codes::One(0x48, Setting::Focus),
-        form: Form::Number,
-    },
+    row!(0x04, One(0x48, Focus), Form::Number),
     // identity
-    InquiryRow {
-        category: 0x04,
-        codes: Codes::One(0x22, Setting::Identity),
-        form: Form::Number,
-    },
+    row!(0x04, One(0x22, Identity), Form::Number),
     // the settings of one digit
-    InquiryRow {
-        category: 0x04,
-        codes: Codes::Modes,
-        form: Form::Digit,
-    },
+    row!(0x04, Modes, Form::Digit),
     // the settings of two digits
-    InquiryRow {
-        category: 0x04,
-        codes: Codes::Levels,
-        form: Form::Level,
-    },
+    row!(0x04, Levels, Form::Level),
     // pan and tilt
-    InquiryRow {
-        category: 0x06,
-        codes: Codes::One(0x12, Setting::Pan),
-        form: Form::PanTilt,
-    },
+    row!(0x06, One(0x12, Pan), Form::PanTilt),
 ];
-
-fn table() -> [InquiryRow; 7]
-    ensures { result ≡ inquiries }
-{
-    INQUIRIES
-}
 
 /// Reads an inquiry behind its first byte, `09`: the place of the row that admits it, from 0, and
 /// what it asks.
 pub fn read_inquiry(body: &[u8]) -> Result<(usize, Inquiry), RowFault>
     ensures { result ≡ inquiry_read body.now }
 {
-    let rows = table();
-    find_row(&rows, body)
+    find_row(&INQUIRIES, body)
 }

@@ -13,6 +13,7 @@ mod operands;
 mod reading;
 mod request;
 mod row;
+mod table;
 pub mod tried;
 mod words;
 
@@ -21,6 +22,7 @@ pub use codes::Codes;
 pub use commands::{COMMANDS, CommandRow, read_command};
 pub use fault::{PacketFault, RowFault};
 pub use inquiries::{Form, INQUIRIES, Inquiry, InquiryRow, read_inquiry};
-pub use operands::{Operands, Sense};
+pub use operands::{OperandForm, Operands, Sense};
 pub use request::{Request, read};
-pub use row::{Row, find_row};
+pub use row::{Body, Row, find_row};
+pub use table::TableRow;

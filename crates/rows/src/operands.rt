@@ -1,9 +1,23 @@
 //! The forms that operands have.
 
-use head::Axis;
+ghost use Rattle.std.specs.Prelude.{◌≡◌, ℕ, List, Option};
+ghost use Rattle.head.specs.declared.setting.Setting.{Setting as S};
+
+use head::{Axis, Setting};
+
+/// A form of operands, with what it makes of them.
+pub trait OperandForm {
+    type Meaning: Drop;
+
+    ghost reads: { Self → S → List ℕ → Option Self.Meaning };
+
+    /// What operands mean, where their code stands for a setting; nothing if they have another form.
+    fn read(&self, setting: Setting, operands: &[u8]) -> Option<Self::Meaning>
+        ensures { result ≡ reads self.now setting operands.now };
+}
 
 /// Which way a drive's operands point.
-#[derive(Clone, Copy)]
+#[derive(Clone, Copy, PartialEq, Eq, Debug)]
 pub enum Sense {
     /// `02` and `2p` drive up.
     Up,
@@ -11,7 +25,7 @@ pub enum Sense {
     Down,
 }
 
-/// What stands behind category and code.
+/// What stands behind a command's category and code.
 #[derive(Clone, Copy)]
 pub enum Operands {
     /// `0p`: the setting to p.

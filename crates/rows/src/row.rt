@@ -1,9 +1,19 @@
 //! The row search: which row of a table, if any, admits a body.
 
-ghost use Rattle.std.specs.Prelude.{◌≡◌, ℕ, Bool, List, Option};
-ghost use Rattle.rows.specs.Search.{meaning, first_of, any_of, found_or, found};
+ghost use Rattle.std.specs.Prelude.{◌≡◌, ◌<◌, ℕ, Bool, List, ◌∷◌, length, Option, IfSome, IfNone};
+ghost use Rattle.std.specs.List.{list_any};
+ghost use Rattle.std.specs.Option.{ok_or};
+ghost use Rattle.rows.specs.Search.{meaning, first_of, fault_of, found};
 
 use crate::fault::RowFault;
+
+/// The parts of a body, behind its first byte.
+#[derive(Clone, Copy, PartialEq, Eq, Debug)]
+pub struct Body<'a> {
+    pub category: u8,
+    pub code: u8,
+    pub operands: &'a [u8],
+}
 
 /// A row of a table: the category and the codes that it has, and what it makes of the operands
 /// behind them.
@@ -14,66 +24,76 @@ pub trait Row {
 
     ghost reads: { Self → ℕ → List ℕ → Option Self.Meaning };
 
-    fn covers(&self, category: u8, code: u8) -> bool
-        ensures { result ≡ has self.now category code };
+    fn covers(&self, body: Body<'_>) -> bool
+        ensures { result ≡ has self.now body.entry.category body.entry.code };
 
-    fn read(&self, code: u8, operands: &[u8]) -> Option<Self::Meaning>
-        ensures { result ≡ reads self.now code operands.now };
+    fn read(&self, body: Body<'_>) -> Option<Self::Meaning>
+        ensures { result ≡ reads self.now body.entry.code body.entry.operands.now };
 }
 
-// What a row makes of a category, a code and operands, if it admits them.
-fn admitted<R: Row>(row: &R, category: u8, code: u8, operands: &[u8]) -> Option<R::Meaning>
-    ensures { result ≡ meaning R.Row.has R.Row.reads category code operands.now row.now }
+impl<'a> Body<'a> {
+    // Bytes in parts, if there are enough of them.
+    fn of(bytes: &'a [u8]) -> Option<Body<'a>>
+        ensures some { IfSome result (λ b. bytes.now ≡ b.category ∷ b.code ∷ b.operands.now) }
+        ensures none { IfNone result (length bytes.now < 2) }
+    {
+        match bytes {
+            [category, code, operands @ ..] => Some(Body {
+                category: *category,
+                code: *code,
+                operands,
+            }),
+            _ => None,
+        }
+    }
+}
+
+// What a row makes of a body, if it admits it.
+fn admitted<R: Row>(row: &R, body: Body<'_>) -> Option<R::Meaning>
+    ensures { result ≡ meaning R.Row.has R.Row.reads body.entry.category body.entry.code body.entry.operands.now row.now }
 {
-    if row.covers(category, code) {
-        row.read(code, operands)
+    if row.covers(body) {
+        row.read(body)
     } else {
         None
     }
 }
 
-// The first row that admits them, by its place, with what it makes of them.
-fn first<R: Row>(rows: &[R], category: u8, code: u8, operands: &[u8]) -> Option<(usize, R::Meaning)>
-    ensures { result ≡ first_of (meaning R.Row.has R.Row.reads category code operands.now) rows.now }
+// The first row that admits a body, by its place, with what it makes of it.
+fn first<R: Row>(rows: &[R], body: Body<'_>) -> Option<(usize, R::Meaning)>
+    ensures { result ≡ first_of (meaning R.Row.has R.Row.reads body.entry.category body.entry.code body.entry.operands.now) rows.now }
 {
-    for (i, row) in rows.iter().enumerate() {
-        if let Some(m) = admitted(row, category, code, operands) {
-            return Some((i, m));
-        }
-    }
-    None
+    rows.iter()
+        .enumerate()
+        .find_map(|(i, row)| admitted(row, body).map(|meaning| (i, meaning)))
 }
 
-// Whether some row has the category and the code.
-fn known<R: Row>(rows: &[R], category: u8, code: u8) -> bool
-    ensures { result ≡ any_of (λ x. R.Row.has x category code) rows.now }
+// Whether some row has a body's category and code.
+fn known<R: Row>(rows: &[R], body: Body<'_>) -> bool
+    ensures { result ≡ list_any (λ x. R.Row.has x body.entry.category body.entry.code) rows.now }
 {
-    for row in rows {
-        if row.covers(category, code) {
-            return true;
-        }
-    }
-    false
+    rows.iter().any(|row| row.covers(body))
 }
 
-// The first row that admits them, or what is wrong with them.
-fn search<R: Row>(
-    rows: &[R],
-    category: u8,
-    code: u8,
-    operands: &[u8],
-) -> Result<(usize, R::Meaning), RowFault>
-    ensures { result ≡ found_or (first_of (meaning R.Row.has R.Row.reads category code operands.now) rows.now) (any_of (λ x. R.Row.has x category code) rows.now) }
+// What is wrong with a body that no row admits.
+fn fault<R: Row>(rows: &[R], body: Body<'_>) -> RowFault
+    ensures { result ≡ fault_of (list_any (λ x. R.Row.has x body.entry.category body.entry.code) rows.now) }
 {
-    match first(rows, category, code, operands) {
+    if known(rows, body) {
+        RowFault::NoSuchOperands
+    } else {
+        RowFault::NoSuchCode
+    }
+}
+
+// The first row that admits a body, or what is wrong with the body.
+fn search<R: Row>(rows: &[R], body: Body<'_>) -> Result<(usize, R::Meaning), RowFault>
+    ensures { result ≡ ok_or (first_of (meaning R.Row.has R.Row.reads body.entry.category body.entry.code body.entry.operands.now) rows.now) (fault_of (list_any (λ x. R.Row.has x body.entry.category body.entry.code) rows.now)) }
+{
+    // Not `ok_or_else`: of a closure that captures `rows` the check learns nothing, whatever it ensures.
+    match first(rows, body) {
         Some(row) => Ok(row),
-        None => {
-            if known(rows, category, code) {
-                Err(RowFault::NoSuchOperands)
-            } else {
-                Err(RowFault::NoSuchCode)
-            }
-        }
+        None => Err(fault(rows, body)),
     }
 }
 
@@ -82,8 +102,6 @@ fn search<R: Row>(
 pub fn find_row<R: Row>(rows: &[R], body: &[u8]) -> Result<(usize, R::Meaning), RowFault>
     ensures { result ≡ found R.Row.has R.Row.reads rows.now body.now }
 {
-    match body {
-        [category, code, operands @ ..] => search(rows, *category, *code, operands),
-        _ => Err(RowFault::NoSuchCode),
-    }
+    let body = Body::of(body).ok_or(RowFault::NoSuchCode)?;
+    search(rows, body)
 }

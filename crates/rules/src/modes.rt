@@ -1,32 +1,42 @@
 //! What the modes forbid. A row goes by the number of the setting that its order names first.
 
 ghost use Rattle.std.specs.Prelude.{◌≡◌};
+ghost use Rattle.head.specs.Settings.{number};
 ghost use Rattle.rules.specs.Modes.{modes_of, lacks, shuts, forbids, powers_on as powers_on_by, forbidden_by};
 
-use head::{Look, Order, Setting};
+use head::{Look, Order, Setting, Target};
+
+// Values of power and freeze.
+const ON: i32 = 2;
+
+const OFF: i32 = 3;
+
+// Values of the focus mode and the exposure mode.
+const MANUAL: i32 = 3;
+
+const SHUTTER: i32 = 10;
+
+const IRIS: i32 = 11;
+
+const BRIGHT: i32 = 13;
+
+// Of white balance, another number is manual.
+const MANUAL_BALANCE: i32 = 5;
 
 /// The settings that commands depend on.
-#[derive(Clone, Copy)]
+#[derive(Clone, Copy, PartialEq, Eq, Debug)]
 pub struct Modes {
-    /// 2 on, 3 off.
     pub power: i32,
-    /// 2 auto, 3 manual.
     pub focus: i32,
-    /// 5 manual.
     pub white_balance: i32,
-    /// 0 full auto, 3 manual, 10 shutter, 11 iris, 13 bright.
     pub exposure: i32,
-    /// 2 on, 3 off.
     pub freeze: i32,
 }
 
 fn value<L: Look>(from: &L, setting: Setting) -> i32
     ensures { result ≡ L.Look.setting from.now setting }
 {
-    match from.look(setting.number()) {
-        Some(value) => value,
-        None => 0,
-    }
+    from.look(setting.number()).unwrap_or(0)
 }
 
 impl Modes {
@@ -42,15 +52,16 @@ impl Modes {
         }
     }
 
-    // Whether the row lacks a mode that it needs.
+    // Whether the row lacks a mode that it needs. Rows go by number, since the rules of the modes do:
+    // they speak of rows 10 to 13 at once.
     fn lack(self, row: u8, target: i32) -> bool
         ensures { result ≡ lacks self row target }
     {
         match (row, self.exposure) {
-            (4 | 5, _) => self.focus != 3,
-            (7 | 8, _) => self.white_balance != 5,
-            (9, 3 | 11) => target == 13,
-            (10, 3 | 10) | (11, 3 | 11) | (12, 3) | (13, 13) => false,
+            (4 | 5, _) => self.focus != MANUAL,
+            (7 | 8, _) => self.white_balance != MANUAL_BALANCE,
+            (9, MANUAL | IRIS) => target == BRIGHT,
+            (10, MANUAL | SHUTTER) | (11, MANUAL | IRIS) | (12, MANUAL) | (13, BRIGHT) => false,
             (10..=13, _) => true,
             _ => false,
         }
@@ -61,17 +72,18 @@ impl Modes {
         ensures { result ≡ shuts self row }
     {
         match row {
-            1.. if self.power == 3 => true,
-            6..=13 | 16 if self.freeze == 2 => true,
+            1.. if self.power == OFF => true,
+            6..=13 | 16 if self.freeze == ON => true,
             _ => false,
         }
     }
 
-    // Whether the modes forbid the row.
-    fn forbid(self, row: u8, target: i32) -> bool
-        ensures { result ≡ forbids self row target }
+    // Whether the modes forbid an order with this first target.
+    fn forbid(self, first: Target) -> bool
+        ensures { result ≡ forbids self (number first.setting) first.value }
     {
-        self.shut(row) || self.lack(row, target)
+        let row = first.setting.number();
+        self.shut(row) || self.lack(row, first.value)
     }
 }
 
@@ -79,7 +91,7 @@ impl Modes {
 pub fn powers_on(order: &Order) -> bool
     ensures { result ≡ powers_on_by order.now }
 {
-    matches!(order.target(Setting::Power), Some(2))
+    order.target(Setting::Power) == Some(ON)
 }
 
 /// Whether a command is not to be executed now: power is being switched on, a mode forbids it, or
@@ -87,8 +99,7 @@ pub fn powers_on(order: &Order) -> bool
 pub fn forbidden<L: Look>(from: &L, powering_on: bool, order: &Order) -> bool
     ensures { result ≡ forbidden_by (L.Look.setting from.now) (L.Look.pantilt from.now) powering_on order.now }
 {
-    let first = order.first();
     powering_on
-        || Modes::of(from).forbid(first.setting.number(), first.value)
+        || Modes::of(from).forbid(order.first())
         || (!from.has_pan_tilt() && order.needs_pan_tilt())
 }

@@ -7,22 +7,22 @@ ghost use Rattle.wire.specs.Line.{over_at};
 use wire::send_at;
 
 /// What is wrong, by VISCA's code.
-#[derive(Clone, Copy)]
+#[derive(Clone, Copy, PartialEq, Eq, Debug)]
 pub enum Problem {
-    /// 02: no row admits the packet.
-    Syntax,
-    /// 03: both sockets are open.
-    BufferFull,
-    /// 04: the command was cancelled.
-    Cancelled,
-    /// 05: no command is in that socket.
-    NoSocket,
-    /// 41: a mode forbids the command, the head lacks what it needs, or it jammed.
-    NotExecutable,
+    /// No row admits the packet.
+    Syntax = 0x02,
+    /// Both sockets are open.
+    BufferFull = 0x03,
+    /// The command was cancelled.
+    Cancelled = 0x04,
+    /// No command is in that socket.
+    NoSocket = 0x05,
+    /// A mode forbids the command, the head lacks what it needs, or it jammed.
+    NotExecutable = 0x41,
 }
 
 /// A reply. Its socket is 0 where it is about none; of a number above 15 the low digit counts.
-#[derive(Clone, Copy)]
+#[derive(Clone, Copy, PartialEq, Eq, Debug)]
 pub enum Reply {
     /// `4Y`: socket Y has taken the command.
     Acknowledgement(u8),
@@ -37,13 +37,7 @@ impl Problem {
     pub fn code(self) -> u8
         ensures { result ≡ code_of self }
     {
-        match self {
-            Problem::Syntax => 0x02,
-            Problem::BufferFull => 0x03,
-            Problem::Cancelled => 0x04,
-            Problem::NoSocket => 0x05,
-            Problem::NotExecutable => 0x41,
-        }
+        self as u8
     }
 }
 
@@ -54,6 +48,7 @@ impl Reply {
         ensures next { result ≡ (if nat_le (at + length (packet header self)) (length out.old) then Some (at + length (packet header self)) else None) }
         ensures sent { out.new ≡ (if nat_le (at + length (packet header self)) (length out.old) then over_at at (packet header self) out.old else out.old) }
     {
+        // Three arms, since an error has a byte more: one array for all would need its length beside it.
         match self {
             Reply::Acknowledgement(y) => send_at(out, at, &[header, 0x40 + y % 16, 0xff]),
             Reply::Completion(y) => send_at(out, at, &[header, 0x50 + y % 16, 0xff]),

@@ -7,7 +7,7 @@ ghost use Rattle.wire.specs.Framing.{bytes_of};
 use wire::Packet;
 
 /// What becomes of a whole packet.
-#[derive(Clone, Copy)]
+#[derive(Clone, Copy, PartialEq, Eq, Debug)]
 pub enum Rule {
     /// This end sent it, so it is taken off the ring.
     TakenOff,

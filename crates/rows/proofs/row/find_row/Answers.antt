@@ -1,8 +1,8 @@
-use Rattle.std.proofs.Common.{◌≤◌, length, rules}
-use Rattle.rows.proofs.Firsts.{found_parts}
+use Rattle.std.proofs.Common.{◌≡◌, ◌∷◌, IfSome, ap, sym, ◌∙◌, subst}
+use Rattle.rows.specs.Search.{found}
 use Rattle.rows.proofs.row.find_row.Goals as goal
 
-pub returns-in-len2-up : goal.returns-in-len2-up
-returns-in-len2-up g c =
-    let h : 2 ≤ length c.args.body.now = search rules in
-    found_parts g.R.Row.has g.R.Row.reads c.args.rows.now c.args.body.now c.search.result h c.search.ensures
+pub returns : goal.returns
+returns g c =
+    let e = subst (λ o. IfSome o (λ b. c.args.body.now ≡ b.category ∷ b.code ∷ b.operands.now)) c.in_ok-body.ensures.ok_part c.of.ensures.some in
+    c.search.ensures ∙ ap (found g.R.Row.has g.R.Row.reads c.args.rows.now) (sym e)

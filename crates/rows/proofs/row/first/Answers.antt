@@ -1,15 +1,13 @@
-use Rattle.std.proofs.Common.{◌<◌, length, arith}
+use Rattle.std.proofs.Common.{List, ap, ◌∙◌, subst, rules}
+use Rattle.std.specs.Iterator.Runs.{ItemsMapTo}
 use Rattle.rows.specs.Search.{meaning}
-use Rattle.rows.proofs.Firsts.{first_at, first_missed}
+use Rattle.rows.proofs.Firsts.{first_by_run}
 use Rattle.rows.proofs.row.first.Goals as goal
-
-pub returns-in-Some : goal.returns-in-Some
-returns-in-Some g c =
-    let l : c.loop-i.i < length c.args.rows.now = omega arith in
-    first_at (meaning g.R.Row.has g.R.Row.reads c.args.category c.args.code c.args.operands.now) c.args.rows.now c.loop-i.i
-    c.index-rows-i.result c.in-Some.m l c.index-rows-i.is c.in-Some.ensures c.loop-i.invariant
 
 pub returns : goal.returns
 returns g c =
-    first_missed (meaning g.R.Row.has g.R.Row.reads c.args.category c.args.code c.args.operands.now) c.args.rows.now
-    (λ k d h. c.loop-i.invariant k d (omega arith))
+    let (p, start, found) = c.find_map.ensures.runs in
+    let (numbers, source) = c.enumerate.ensures.runs p p.seen start in
+    let (q, begin, last) = source in let (behind, whole) = last in
+    let items = subst (λ (xs : List g.row.R.Denot). ItemsMapTo q (λ y. y.now) xs) (ap (λ s. s.rest.now) begin ∙ c.iter.ensures.rest) (c.iter.ensures.runs q q.seen) in
+    first_by_run (meaning g.R.Row.has g.R.Row.reads c.args.body.category c.args.body.code c.args.body.operands.now) c.args.rows.now _ _ (λ x r c' k. search rules) p q numbers behind items c.find_map.result whole found

@@ -1,0 +1,11 @@
+//! What reading and sending of replies have to do with each other: a statement that the check holds
+//! the definitions to.
+
+ghost use Rattle.rules.specs.Replies.{RepliesReadBack};
+
+/// A reply that is sent is read as itself.
+pub fn replies_read_back() -> u8
+    ensures { RepliesReadBack }
+{
+    0
+}
