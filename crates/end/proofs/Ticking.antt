@@ -1,7 +1,5 @@
 -- What a tick leaves of the tie between book, end and head, and which settings it may change.
 use Rattle.std.proofs.Common.{◌≡◌, ℕ, zero, suc, ◌≤◌, true, false, eqb, ◌⊎◌, List, [], ◌∷◌, ◌++◌, ℤ, pos, negsuc, Some, None, Option, sym, refl, ◌∙◌, subst, inl, inr, arith}
-use Rattle.end.specs.declared.socket.Socket.{Socket}
-use Rattle.end.specs.declared.socket.Socket.TheVariants.{Closed, Open}
 use Rattle.end.specs.declared.socket.Sockets.{Sockets}
 use Rattle.end.specs.Book.{Seen, closed, working, older}
 use Rattle.end.specs.Deeds.{settled}
@@ -29,18 +27,18 @@ abbrev closes : Option Ending → Seen → Seen
 closes None l = l
 closes (Some e) l = closed
 
-ticked : {l : Seen} {x : Socket} {c : Slot} (e : Option Ending) (c' : Slot) → Tied l x c → SlotTicked c e c' → Tied (closes e (older l)) (settled e x) c'
-ticked None c' rests t = tied Closed c' refl t rests
+ticked : {l : Seen} {x : Option Order} {c : Slot} (e : Option Ending) (c' : Slot) → Tied l x c → SlotTicked c e c' → Tied (closes e (older l)) (settled e x) c'
+ticked None c' rests t = tied None c' refl t rests
 ticked (Some e) c' rests t = elim t [ ]
-ticked None c' (works {o = o} r low high) t = tied (Open o) c' refl t.1 (works r (omega (arith, t.0)) (omega (arith, t.0)))
-ticked (Some e) c' (works r low high) t = tied Closed c' refl t.1 rests
+ticked None c' (works {o = o} r low high) t = tied (Some o) c' refl t.1 (works r (omega (arith, t.0)) (omega (arith, t.0)))
+ticked (Some e) c' (works r low high) t = tied None c' refl t.1 rests
 
 -- an ending is told only of an open socket
 abbrev FromOpen : Option Ending → Seen → Type 0
 FromOpen None l = Unit {0}
 FromOpen (Some e) l = open_by l ≡ true
 
-from_open : {l : Seen} {x : Socket} {c : Slot} (e : Option Ending) (c' : Slot) → Tied l x c → SlotTicked c e c' → FromOpen e (older l)
+from_open : {l : Seen} {x : Option Order} {c : Slot} (e : Option Ending) (c' : Slot) → Tied l x c → SlotTicked c e c' → FromOpen e (older l)
 from_open None c' t s = tt
 from_open (Some e) c' rests s = elim s [ ]
 from_open (Some e) c' (works r low high) s = refl
@@ -70,7 +68,7 @@ module _ (a : ℕ) (p sent : List ℕ) (f : Setting → ℤ) (s' : State) (low :
   told (Some Jammed) (Some Jammed) k' c' h c g e o₁ o₂ t₁ t₂ =
       after_owns a p sent f s' k' c' h c g (Error 1 NotExecutable ∷ Error 2 NotExecutable ∷ []) l₁ l₂ low (awake (inl o₁)) e (o₁, (tt, tt)) (tt, (o₂, tt)) t₁ t₂
 
-pub after_tick : {l₁ l₂ : Seen} {x₁ x₂ : Socket} {c₁ c₂ : Slot} (a : ℕ) (p sent : List ℕ) (s' : State) (e : Endings) → a ≤ 7 →
+pub after_tick : {l₁ l₂ : Seen} {x₁ x₂ : Option Order} {c₁ c₂ : Slot} (a : ℕ) (p sent : List ℕ) (s' : State) (e : Endings) → a ≤ 7 →
     ((open_by l₁ ≡ true) ⊎ (open_by l₂ ≡ true) → eqb a 0 ≡ false) → Tied l₁ x₁ c₁ → Tied l₂ x₂ c₂ →
     SlotTicked c₁ e.one s'.head.slots.one → SlotTicked c₂ e.two s'.head.slots.two →
     s'.sockets ≡ record { one = settled e.one x₁; two = settled e.two x₂ } →
@@ -89,7 +87,7 @@ named_by x o r t None e = inl e
 named_by x o r t (Some v) e = inr (rw (r, e) refl)
 
 -- a slot that names a setting is of an open command that does
-named : {l : Seen} {x : Socket} {c : Slot} (t : Setting) → Tied l x c → (wanted c t ≡ None) ⊎ Named l t
+named : {l : Seen} {x : Option Order} {c : Slot} (t : Setting) → Tied l x c → (wanted c t ≡ None) ⊎ Named l t
 named t rests = inl refl
 named t (works {p = p} {o = o} r low high) = named_by (read_as p) o r t (wants (parts o.targets) t) refl
 
@@ -108,7 +106,7 @@ module _ (m m' : Meaning) (e : Endings) (d : Ticked m e m') (t : Setting) (by : 
         | inr n ↦ inr (record { axis = x; is = q; moves = n })
       ]
 
-pub changed : {l₁ l₂ : Seen} {x₁ x₂ : Socket} (m m' : Meaning) (e : Endings) (t : Setting) → Ticked m e m' →
+pub changed : {l₁ l₂ : Seen} {x₁ x₂ : Option Order} (m m' : Meaning) (e : Endings) (t : Setting) → Ticked m e m' →
     Tied l₁ x₁ m.slots.one → Tied l₂ x₂ m.slots.two → (m'.setting t ≡ m.setting t) ⊎ (Named l₁ t ⊎ Named l₂ t ⊎ Driven m t)
 changed m m' e t d t₁ t₂ = elim (named t t₁) [
   | inl n₁ ↦ elim (named t t₂) [

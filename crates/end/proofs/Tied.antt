@@ -1,7 +1,5 @@
 -- A socket by the book, by the end and by the head: what is kept from call to call.
-use Rattle.std.proofs.Common.{◌≡◌, ℕ, ◌+◌, ◌≤◌, false, eqb, List, ℤ, Some, sym, refl, ap, subst, arith}
-use Rattle.end.specs.declared.socket.Socket.{Socket}
-use Rattle.end.specs.declared.socket.Socket.TheVariants.{Closed, Open}
+use Rattle.std.proofs.Common.{◌≡◌, ℕ, ◌+◌, ◌≤◌, false, eqb, List, ℤ, Some, None, Option, sym, refl, ap, subst, arith}
 use Rattle.end.specs.declared.socket.Sockets.{Sockets}
 use Rattle.end.specs.Book.{Seen, closed, working, cut, reads}
 use Rattle.end.specs.Law.{read_as, open_by, Holds, InOrder, InTime}
@@ -13,28 +11,28 @@ use Rattle.head.specs.declared.setting.Setting.{Setting}
 use Rattle.head.specs.Meaning.{Slot, Slots, idle, busy, order_in, in_use}
 use Rattle.rules.specs.declared.reply.Reply.{Reply}
 
-pub data Tied : Seen → Socket → Slot → Type 0 where
-  rests : Tied closed Closed idle
-  works : {p : List ℕ} {n m : ℕ} {o : Order} → read_as p ≡ Some o → 1 ≤ m → n + m ≤ 1000 → Tied (working p n) (Open o) (busy o m)
+pub data Tied : Seen → Option Order → Slot → Type 0 where
+  rests : Tied closed None idle
+  works : {p : List ℕ} {n m : ℕ} {o : Order} → read_as p ≡ Some o → 1 ≤ m → n + m ≤ 1000 → Tied (working p n) (Some o) (busy o m)
 
-pub tied : {l : Seen} {x : Socket} {c : Slot} (x' : Socket) (c' : Slot) → x' ≡ x → c' ≡ c → Tied l x c → Tied l x' c'
+pub tied : {l : Seen} {x : Option Order} {c : Slot} (x' : Option Order) (c' : Slot) → x' ≡ x → c' ≡ c → Tied l x c → Tied l x' c'
 tied x' c' e h t = rw (e, h) t
 
 -- What the law says of it.
 
-pub tied_open : {l : Seen} {x : Socket} {c : Slot} → Tied l x c → is_open x ≡ open_by l
+pub tied_open : {l : Seen} {x : Option Order} {c : Slot} → Tied l x c → is_open x ≡ open_by l
 tied_open rests = refl
 tied_open (works r low high) = refl
 
-pub tied_holds : {l : Seen} {x : Socket} {c : Slot} → Tied l x c → Holds l c
+pub tied_holds : {l : Seen} {x : Option Order} {c : Slot} → Tied l x c → Holds l c
 tied_holds rests = record { whether = refl; which = refl }
 tied_holds (works r low high) = record { whether = refl; which = sym r }
 
-pub tied_in_time : {l : Seen} {x : Socket} {c : Slot} → Tied l x c → InTime l
+pub tied_in_time : {l : Seen} {x : Option Order} {c : Slot} → Tied l x c → InTime l
 tied_in_time rests = tt
 tied_in_time (works r low high) = omega arith
 
-pub tied_meets : {l : Seen} {x : Socket} {c : Slot} (o : Order) → Tied l x c → in_use (order_in c) o ≡ meets x o
+pub tied_meets : {l : Seen} {x : Option Order} {c : Slot} (o : Order) → Tied l x c → in_use (order_in c) o ≡ meets x o
 tied_meets o rests = refl
 tied_meets o (works r low high) = refl
 
@@ -46,7 +44,7 @@ pub record After (a : ℕ) (p : List ℕ) (l₁ l₂ : Seen) (sent : List ℕ) (
   pub order_two : InOrder a 2 p (cut sent) l₂
   pub settings : (t : Setting) → s'.head.setting t ≡ f t
 
-tied_line : {l l' : Seen} {x : Socket} {c : Slot} → l ≡ l' → Tied l' x c → Tied l x c
+tied_line : {l l' : Seen} {x : Option Order} {c : Slot} → l ≡ l' → Tied l' x c → Tied l x c
 tied_line e t = rw e t
 
 module _ (a : ℕ) (p sent : List ℕ) (f : Setting → ℤ) (s' : State) (k' : Sockets) (c' : Slots) (stand : s'.sockets ≡ k') (slots : s'.head.slots ≡ c') (settings : (t : Setting) → s'.head.setting t ≡ f t) where

@@ -2,8 +2,8 @@
 
 ghost use Rattle.std.specs.Prelude.{◌≡◌, ℕ, ◌-◌, ◌≤◌, List, [], ◌∷◌, ◌++◌, length, take, drop};
 ghost use Rattle.end.specs.Law.{Played};
-ghost use Rattle.end.specs.States.{view};
-ghost use Rattle.head.specs.Meaning.{Meaning, view as head_view};
+ghost use Rattle.end.specs.States.{meaning, state};
+ghost use Rattle.head.specs.Meaning.{Meaning};
 
 use crate::call::Call;
 use crate::end::End;
@@ -14,7 +14,7 @@ use head::{Head, Look};
 fn serve<H: Head>(end: &mut End<H>, call: Call, out: &mut [u8]) -> usize
     ensures within { result ≤ length out.new }
     ensures untouched { drop result out.new ≡ drop result out.old }
-    ensures played { (m : Meaning) (cs : List Call) (n : ℕ) (bs : List ℕ) → length out.old ≡ n - length bs → Played m cs n bs (view H.Look.setting H.Look.pantilt H.Head.slots end.old) → Played m (cs ++ call ∷ []) n (bs ++ take result out.new) (view H.Look.setting H.Look.pantilt H.Head.slots end.new) }
+    ensures played { (m : Meaning) (cs : List Call) (n : ℕ) (bs : List ℕ) → length out.old ≡ n - length bs → Played m cs n bs (state end.old) → Played m (cs ++ call ∷ []) n (bs ++ take result out.new) (state end.new) }
 {
     match call {
         Call::Byte(byte) => bytes_sent(end.byte(byte, out)),
@@ -30,7 +30,7 @@ fn serve<H: Head>(end: &mut End<H>, call: Call, out: &mut [u8]) -> usize
 /// packet. It hands back the end and the count of bytes logged. A byte or tick that finds less than
 /// 16 bytes left in the log is refused, as with any short buffer.
 pub fn play<H: Head>(head: H, calls: &[Call], log: &mut [u8]) -> (End<H>, usize)
-    ensures played { Played (head_view H.Look.setting H.Look.pantilt H.Head.slots head) calls.now (length log.old) (take result.1 log.new) (view H.Look.setting H.Look.pantilt H.Head.slots result.0) }
+    ensures played { Played (meaning H.Look H.slots head) calls.now (length log.old) (take result.1 log.new) (state result.0) }
     ensures untouched { drop result.1 log.new ≡ drop result.1 log.old }
 {
     let mut end = End::make(head);

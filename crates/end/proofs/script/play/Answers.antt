@@ -3,10 +3,9 @@ use Rattle.std.proofs.lemmas.List.{take_more, take_all, length-take-le}
 use Rattle.end.specs.declared.call.Call.{Call}
 use Rattle.end.specs.declared.call.Call.TheVariants.{Byte}
 use Rattle.end.specs.Law.{Played}
-use Rattle.end.specs.States.{view}
+use Rattle.end.specs.States.{meaning, state}
 use Rattle.end.proofs.Logs.{logged_more, rest_untouched}
 use Rattle.end.proofs.Runs.{played_none}
-use Rattle.head.specs.Meaning as head
 use Rattle.end.proofs.script.play.Goals as goal
 
 pub loop-call-init : goal.loop-call-init
@@ -35,8 +34,8 @@ loop-call-preserved g c =
 
 pub returns : goal.returns
 returns g c =
-    let m = head.view g.H.Look.setting g.H.Look.pantilt g.H.Head.slots c.args.head in
-    let s = view g.H.Look.setting g.H.Look.pantilt g.H.Head.slots c.loop-call.end in
+    let m = meaning g.H.Look g.H.Head.slots c.args.head in
+    let s = state c.loop-call.end in
     record {
       played = subst (λ (cs : List Call). Played m cs (length c.args.log.now) (take c.loop-call.count c.loop-call.log) s)
           (take_all c.loop-call.call-index c.args.calls.now c.loop-call-test.false) (c.loop-call.invariant.2 m c.make-end.ensures);

@@ -1,15 +1,15 @@
 use Rattle.std.proofs.Common.{[], length, take, refl, rules}
 use Rattle.end.specs.declared.call.Call.TheVariants.{Byte, Tick, Open}
 use Rattle.end.specs.Faults.{answered, count, opens}
-use Rattle.end.specs.States.{view}
+use Rattle.end.specs.States.{state}
 use Rattle.end.proofs.Runs.{played_more}
 use Rattle.end.proofs.script.serve.Goals as goal
 
 pub returns-in-Byte : goal.returns-in-Byte
 returns-in-Byte g c =
     let d = c.byte.ensures in
-    let was = view g.H.Look.setting g.H.Look.pantilt g.H.Head.slots c.args.end.now in
-    let then = view g.H.Look.setting g.H.Look.pantilt g.H.Head.slots c.byte.new.self in
+    let was = state c.args.end.now in
+    let then = state c.byte.new.self in
     record {
       within = rw c.bytes_sent.ensures d.within;
       untouched = rw c.bytes_sent.ensures d.untouched;
@@ -20,8 +20,8 @@ returns-in-Byte g c =
 pub returns-in-Tick : goal.returns-in-Tick
 returns-in-Tick g c =
     let d = c.tick.ensures in
-    let was = view g.H.Look.setting g.H.Look.pantilt g.H.Head.slots c.args.end.now in
-    let then = view g.H.Look.setting g.H.Look.pantilt g.H.Head.slots c.tick.new.self in
+    let was = state c.args.end.now in
+    let then = state c.tick.new.self in
     record {
       within = rw c.bytes_sent-in-Tick.ensures d.within;
       untouched = rw c.bytes_sent-in-Tick.ensures d.untouched;
@@ -32,7 +32,7 @@ returns-in-Tick g c =
 pub returns-in-Open : goal.returns-in-Open
 returns-in-Open g c =
     let d = c.open.ensures in
-    let was = view g.H.Look.setting g.H.Look.pantilt g.H.Head.slots c.args.end.now in
+    let was = state c.args.end.now in
     record {
       within = search rules;
       untouched = search rules;
