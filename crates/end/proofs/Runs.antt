@@ -8,7 +8,7 @@ use Rattle.end.specs.declared.socket.Sockets.{Sockets}
 use Rattle.end.specs.Book.{Book, Entry, Standing, Seen, closed, between, cut, reads, receives, sees, ages, older, notes, accepted, enters, book_of, fresh, clearing}
 use Rattle.end.specs.Deeds.{Same}
 use Rattle.end.specs.Faults.{Answer, opens}
-use Rattle.end.specs.Law.{Run, Lawful, Law, Agreement, InOrder, InTime, MayChange, open_by, entry, Keeps, Played, room_for, SocketsAgreeInEveryRun}
+use Rattle.end.specs.Law.{Run, Lawful, Law, Agreement, InOrder, InTime, MayChange, open_by, entry, Keeps, Played, Served, room_for, SocketsAgreeInEveryRun}
 use Rattle.end.specs.Law as law
 use Rattle.end.specs.Outcomes.{Outcome, own_header, sends, fails, framed, met, ended, requested as asked-for}
 use Rattle.end.specs.States.{State, InRange}
@@ -335,12 +335,14 @@ lawful_run (law.Lawful.then e a r d v l) = law.Run.then e a (lawful_run r) d v
 pub played_none : {m : Meaning} {s : State} (n : ℕ) → InRange s → Made m s → Played m [] n [] s
 played_none n v d = record { run = []; asked = refl; logged = refl; shared = tt; lawful = every_run (law.Run.made d v) }
 
-pub played_more : (m : Meaning) (cs : List Call) (n : ℕ) (bs : List ℕ) (s : State) (c : Call) (room : ℕ) (a : Answer) (sent : List ℕ) (s' : State) →
-    room ≡ room_for c (n - length bs) → InRange s' → Step s c room a sent s' → Played m cs n bs s → Played m (cs ++ c ∷ []) n (bs ++ sent) s'
-played_more m cs n bs s c room a sent s' e w d v = record {
-  run = entry c room sent ∷ v.run;
-  asked = ap (λ (x : List Call). x ++ c ∷ []) v.asked;
-  logged = ap (λ (x : List ℕ). x ++ sent) v.logged;
-  shared = (e ∙ ap (λ (x : List ℕ). room_for c (n - length x)) (sym v.logged), v.shared);
-  lawful = law.Lawful.then (entry c room sent) a v.lawful d w (call_law (entry c room sent) a s' (lawful_run v.lawful) d);
-}
+pub played_more : (m : Meaning) (cs : List Call) (n : ℕ) (bs : List ℕ) (s : State) (c : Call) (sent : List ℕ) (s' : State) →
+    Served c (n - length bs) s sent s' → Played m cs n bs s → Played m (cs ++ c ∷ []) n (bs ++ sent) s'
+played_more m cs n bs s c sent s' d v =
+    let room = room_for c (n - length bs) in
+    record {
+      run = entry c room sent ∷ v.run;
+      asked = ap (λ (x : List Call). x ++ c ∷ []) v.asked;
+      logged = ap (λ (x : List ℕ). x ++ sent) v.logged;
+      shared = (ap (λ (x : List ℕ). room_for c (n - length x)) (sym v.logged), v.shared);
+      lawful = law.Lawful.then (entry c room sent) d.answer v.lawful d.step d.ranged (call_law (entry c room sent) d.answer s' (lawful_run v.lawful) d.step);
+    }
