@@ -1,5 +1,6 @@
 -- What each outcome of a whole packet leaves of the tie between book, end and head.
 use Rattle.std.proofs.Common.{◌≡◌, ℕ, pos, negsuc, ◌+◌, ◌/◌, ◌%◌, ◌≤◌, Bool, true, false, cond, not, ◌&&◌, eqb, List, [], ◌∷◌, ◌++◌, ℤ, Some, None, Ok, Err, Option, Result, sym, refl, ap, ◌∙◌, subst, arith}
+use Rattle.std.proofs.Math.Bool.{and-false}
 use Rattle.std.proofs.lemmas.Bool.{eqb-true, ne_eqb, or_parts}
 use Rattle.std.proofs.lemmas.Int.{ints}
 use Rattle.end.specs.declared.socket.Sockets.{Sockets}
@@ -55,10 +56,6 @@ no_reason_two pt q o fit apart = rw (fit.ranged, fit.able, apart) refl
 no_reason_idle : (m : Meaning) (pt : Bool) (y : ℕ) (o : Order) → m.pantilt ≡ pt → m.slots ≡ record { one = idle; two = idle } → reason pt None None y o ≡ 0 → refusal m y o ≡ 0
 no_reason_idle m pt y o e h r =
     ap (λ (s : Slots). reason m.pantilt (order_in s.one) (order_in s.two) y o) h ∙ ap (λ (q : Bool). reason q None None y o) e ∙ r
-
-both_false : (b : Bool) → (b && false) ≡ false
-both_false true = refl
-both_false false = refl
 
 -- Digits are no FF.
 
@@ -123,7 +120,7 @@ module _ (f : Setting → ℤ) (pt : Bool) (a : ℕ) (p sent : List ℕ) (s' : S
   addressed w x₁ x₂ c₁ c₂ e some d =
       let n : eqb (w + 1) 0xff ≡ false = ne_eqb (w + 1) 0xff (λ q. omega arith) in
       let z : eqb (0x88 / 16 % 8) a ≡ false = ne_eqb 0 a (λ q. omega arith) in
-      let g : (not (eqb a 0) && eqb (0x88 / 16 % 8) a) ≡ false = rw z (both_false (not (eqb a 0))) in
+      let g : (not (eqb a 0) && eqb (0x88 / 16 % 8) a) ≡ false = rw z (and-false (not (eqb a 0))) in
       let plain : Plain (0x88 ∷ 0x30 ∷ (w + 1) ∷ []) = (refl, (refl, (n, tt))) in
       wiped (0x88 ∷ 0x30 ∷ (w + 1) ∷ 0xff ∷ []) x₁ x₂ c₁ c₂ w
       (read_foreign a 1 0x88 p (0x30 ∷ (w + 1) ∷ []) closed low plain g) (read_foreign a 2 0x88 p (0x30 ∷ (w + 1) ∷ []) closed low plain g) d
@@ -234,7 +231,7 @@ module _ (f : Setting → ℤ) (pt : Bool) (a : ℕ) (p sent : List ℕ) (s' : S
         (Error 2 CancelledCommand ∷ []) l₁ (working q n) low has d.packets (tt, tt) (refl, tt) t₁ rests
 
     no_socket_said : (z y : ℕ) → said z (Error y NoSocket) ≡ nothing_said
-    no_socket_said z y = simp both_false
+    no_socket_said z y = simp and-false
 
     -- by whether the number is 1, or 2
     pub cancel : {l₁ l₂ : Seen} {x₁ x₂ : Option Order} {c₁ c₂ : Slot} (y : ℕ) (v w : Bool) → eqb y 1 ≡ v → eqb y 2 ≡ w → Tied l₁ x₁ c₁ → Tied l₂ x₂ c₂ →

@@ -133,13 +133,13 @@ every_acknowledged_command_is_ended m h later s r y number p n at many = ended m
 -- A cancel.
 
 stands_inside : {st : Standing} {hd : Held} (bs : List ℕ) → Stands st hd → st ≡ inside bs → hd ≡ begun bs
-stands_inside bs nowhere e = let z : ◌≡◌ {A = ℕ} 0 1 = cc in absurd (omega arith)
+stands_inside bs nowhere e = cc
 stands_inside bs (within plain low high) e = cc
-stands_inside bs passing e = let z : ◌≡◌ {A = ℕ} 0 1 = cc in absurd (omega arith)
+stands_inside bs passing e = cc
 
 closed_tied : {l : Seen} {x : Option Order} {c : Slot} → Tied l x c → x ≡ None → l ≡ closed
 closed_tied rests e = refl
-closed_tied (works r low high) e = let z : ◌≡◌ {A = ℕ} 0 1 = cc in absurd (omega arith)
+closed_tied (works r low high) e = cc
 
 abbrev cancel_of : ℕ → ℕ → List ℕ
 cancel_of a y = (0x80 + a) ∷ (0x20 + y) ∷ 0xff ∷ []

@@ -53,8 +53,8 @@ pub awake : (a : ℕ) (l₁ l₂ : Seen) (t : Bool) → eqb a 0 ≡ t → (a ≡
 awake a l₁ l₂ true e h w =
     let c = h (eqb-true a 0 e) in
     elim w [
-      | inl o ↦ absurd (true≢false (sym o ∙ ap open_by c.0))
-      | inr o ↦ absurd (true≢false (sym o ∙ ap open_by c.1))
+      | inl o ↦ let q = ap open_by c.0 in cc
+      | inr o ↦ let q = ap open_by c.1 in cc
     ]
 awake a l₁ l₂ false e h w = e
 
@@ -198,12 +198,6 @@ pub record Goes (k : Book) (s : State) (e : Entry) (a : Answer) (s' : State) : T
   pub settings : (t : Setting) → (s'.head.setting t ≡ s.head.setting t) ⊎ MayChange k s.head e t
   pub answer : e.call ≡ Open → a ≡ opens (open_by k.one) (open_by k.two)
 
-byte_no_open : (b : ℕ) → Byte b ≡ Open → ⊥
-byte_no_open b e = let z : ◌≡◌ {A = ℕ} 0 1 = cc in omega arith
-
-tick_no_open : Tick ≡ Open → ⊥
-tick_no_open e = let z : ◌≡◌ {A = ℕ} 0 1 = cc in omega arith
-
 -- end and head as before, nothing sent
 still : (k : Book) (s s' : State) → Inv k s → Same s.head s'.head → s'.sockets ≡ s.sockets → s'.address ≡ s.address → s'.held ≡ s.held → Inv k s'
 still k s s' i h c e g = record {
@@ -220,8 +214,8 @@ refused : (k : Book) (s : State) (e : Entry) (a : Answer) (s' : State) → (e.ca
     Came s s.held (fails s.address ShortBuffer []) a e.sent s' → Goes k s e a s'
 refused k s e a s' never w i c = record {
   inv = rw w (still k s s' i c.head c.sockets c.address c.held);
-  order_one = λ t. absurd (true≢false (sym t ∙ w));
-  order_two = λ t. absurd (true≢false (sym t ∙ w));
+  order_one = λ t. cc;
+  order_two = λ t. cc;
   silent = λ t. c.packets;
   settings = λ t. inl (c.head.kept.setting t);
   answer = λ o. absurd (never o);
@@ -234,11 +228,11 @@ byte_goes k s b n a sent s' true w v i d =
       inv = rw w r.inv;
       order_one = λ t. r.order_one;
       order_two = λ t. r.order_two;
-      silent = λ t. absurd (true≢false (sym w ∙ t));
+      silent = λ t. cc;
       settings = λ t. inl (r.settings t);
-      answer = λ o. absurd (byte_no_open b o);
+      answer = λ o. cc;
     }
-byte_goes k s b n a sent s' false w v i d = refused k s (entry (Byte b) n sent) a s' (byte_no_open b) w i (d.short (leb-false 16 n w))
+byte_goes k s b n a sent s' false w v i d = refused k s (entry (Byte b) n sent) a s' (λ o. cc) w i (d.short (leb-false 16 n w))
 
 tick_goes : (k : Book) (s : State) (n : ℕ) (a : Answer) (sent : List ℕ) (s' : State) (w : Bool) → leb 16 n ≡ w → Inv k s → Step s Tick n a sent s' → Goes k s (entry Tick n sent) a s'
 tick_goes k s n a sent s' true w i d =
@@ -254,17 +248,17 @@ tick_goes k s n a sent s' true w i d =
       inv = rw w q.inv;
       order_one = λ t. q.order_one;
       order_two = λ t. q.order_two;
-      silent = λ t. absurd (true≢false (sym w ∙ t));
+      silent = λ t. cc;
       settings = λ t. elim (changed s.head s'.head e t h i.one i.two) [ inl y ↦ inl y | inr y ↦ inr (record { tick = refl; room = leb-true 16 n w; why = y }) ];
-      answer = λ o. absurd (tick_no_open o);
+      answer = λ o. cc;
     }
-tick_goes k s n a sent s' false w i d = refused k s (entry Tick n sent) a s' tick_no_open w i (d.short (leb-false 16 n w))
+tick_goes k s n a sent s' false w i d = refused k s (entry Tick n sent) a s' (λ o. cc) w i (d.short (leb-false 16 n w))
 
 open_goes : (k : Book) (s : State) (n : ℕ) (a : Answer) (sent : List ℕ) (s' : State) → Inv k s → Step s Open n a sent s' → Goes k s (entry Open n sent) a s'
 open_goes k s n a sent s' i d = record {
   inv = still k s s' i d.head d.sockets d.address d.held;
-  order_one = λ t. absurd (true≢false (sym t));
-  order_two = λ t. absurd (true≢false (sym t));
+  order_one = λ t. cc;
+  order_two = λ t. cc;
   silent = λ t. d.silent;
   settings = λ t. inl (d.head.kept.setting t);
   answer = λ o. let x = tied_open i.one in let y = tied_open i.two in d.answer ∙ rw (x, y) refl;

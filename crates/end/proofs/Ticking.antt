@@ -93,8 +93,8 @@ named t (works {p = p} {o = o} r low high) = named_by (read_as p) o r t (wants (
 
 zero_or_not : (v : ℤ) → (v ≡ pos 0) ⊎ (v ≡ pos 0 → ⊥)
 zero_or_not (pos zero) = inl refl
-zero_or_not (pos (suc n)) = inr (λ e. let z : suc n ≡ 0 = cc in omega arith)
-zero_or_not (negsuc n) = inr (λ e. let z : ◌≡◌ {A = ℕ} 0 1 = cc in omega arith)
+zero_or_not (pos (suc n)) = inr (λ e. cc)
+zero_or_not (negsuc n) = inr (λ e. cc)
 
 module _ (m m' : Meaning) (e : Endings) (d : Ticked m e m') (t : Setting) (by : Unnamed m t) where
   by_axis : (x : Option Axis) → (about t).axis ≡ x → (m'.setting t ≡ m.setting t) ⊎ Driven m t

@@ -32,10 +32,6 @@ pub tied_in_time : {l : Seen} {x : Option Order} {c : Slot} → Tied l x c → I
 tied_in_time rests = tt
 tied_in_time (works r low high) = omega arith
 
-pub tied_meets : {l : Seen} {x : Option Order} {c : Slot} (o : Order) → Tied l x c → in_use (order_in c) o ≡ meets x o
-tied_meets o rests = refl
-tied_meets o (works r low high) = refl
-
 -- Both sockets after the sent packets of an end with address a were read; p is the last whole packet.
 pub record After (a : ℕ) (p : List ℕ) (l₁ l₂ : Seen) (sent : List ℕ) (f : Setting → ℤ) (s' : State) : Type 0 where
   pub one : Tied (reads a 1 p (cut sent) l₁) s'.sockets.one s'.head.slots.one
