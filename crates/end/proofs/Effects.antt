@@ -91,9 +91,7 @@ module _ (f : Setting → ℤ) (pt : Bool) (a : ℕ) (p sent : List ℕ) (s' : S
   quiet : {l₁ l₂ : Seen} {x₁ x₂ : Option Order} {c₁ c₂ : Slot} (bytes : List ℕ) → Read a 1 p bytes l₁ l₁ → Read a 2 p bytes l₂ l₂ →
       Tied l₁ x₁ c₁ → Tied l₂ x₂ c₂ → Done (sends a bytes) x₁ x₂ c₁ c₂ → After a p l₁ l₂ sent f s'
   quiet {l₁} {l₂} {x₁} {x₂} {c₁} {c₂} bytes r₁ r₂ t₁ t₂ d =
-      after_read a p sent f s' (both x₁ x₂) (record { one = c₁; two = c₂ }) d.sockets d.head.slots d.head.kept.setting l₁ l₂
-      (subst (λ (bs : List ℕ). Read a 1 p bs l₁ l₁) (sym d.packets) r₁)
-      (subst (λ (bs : List ℕ). Read a 2 p bs l₂ l₂) (sym d.packets) r₂) t₁ t₂
+      after_read a p sent f s' (both x₁ x₂) (record { one = c₁; two = c₂ }) d.sockets d.head.slots d.head.kept.setting bytes l₁ l₂ d.packets r₁ r₂ t₁ t₂
 
   pub silent : {l₁ l₂ : Seen} {x₁ x₂ : Option Order} {c₁ c₂ : Slot} → Tied l₁ x₁ c₁ → Tied l₂ x₂ c₂ → Done (sends a []) x₁ x₂ c₁ c₂ → After a p l₁ l₂ sent f s'
   silent {l₁} {l₂} t₁ t₂ d = quiet [] (read_none a 1 p l₁) (read_none a 2 p l₂) t₁ t₂ d
@@ -102,9 +100,7 @@ module _ (f : Setting → ℤ) (pt : Bool) (a : ℕ) (p sent : List ℕ) (s' : S
   wiped : (bytes : List ℕ) (x₁ x₂ : Option Order) (c₁ c₂ : Slot) (b : ℕ) → Read a 1 p bytes closed closed → Read a 2 p bytes closed closed →
       Done (does b clears bytes) x₁ x₂ c₁ c₂ → After a p closed closed sent f s'
   wiped bytes x₁ x₂ c₁ c₂ b r₁ r₂ d =
-      after_read a p sent f s' (both None None) (record { one = idle; two = idle }) d.sockets d.head.slots d.head.kept.setting closed closed
-      (subst (λ (bs : List ℕ). Read a 1 p bs closed closed) (sym d.packets) r₁)
-      (subst (λ (bs : List ℕ). Read a 2 p bs closed closed) (sym d.packets) r₂) rests rests
+      after_read a p sent f s' (both None None) (record { one = idle; two = idle }) d.sockets d.head.slots d.head.kept.setting bytes closed closed d.packets r₁ r₂ rests rests
 
   -- a packet that another sent, sent on
   pub passed : {q : List ℕ} {l₁ l₂ : Seen} {x₁ x₂ : Option Order} {c₁ c₂ : Slot} → Whole q → Foreign a q → Tied l₁ x₁ c₁ → Tied l₂ x₂ c₂ → Done (sends a q) x₁ x₂ c₁ c₂ → After a p l₁ l₂ sent f s'

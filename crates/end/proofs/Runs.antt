@@ -17,7 +17,7 @@ use Rattle.end.proofs.Effects as effects
 use Rattle.end.proofs.Heard.{Stands, nowhere, Heard, nothing, faulty, packet, heard, Whole}
 use Rattle.end.proofs.Ruled.{Ruled, taken_off, address, cleared_for_all, sent_on, cleared, cancelled, requested, ruled}
 use Rattle.end.proofs.Ticking.{after_tick, changed}
-use Rattle.end.proofs.Tied.{Tied, rests, tied, tied_open, tied_holds, tied_in_time, After}
+use Rattle.end.proofs.Tied.{Tied, rests, tied_open, tied_holds, tied_in_time, After}
 use Rattle.head.specs.declared.setting.Setting.{Setting}
 use Rattle.head.specs.Meaning.{Meaning, Slots}
 use Rattle.head.specs.Settings.{Small}
@@ -145,9 +145,6 @@ noted k f sent s' e low st asleep r = record {
   settings = r.settings;
 }
 
-stands_as : {st : Standing} {h : Held} (h' : Held) → h' ≡ h → Stands st h → Stands st h'
-stands_as h' e t = rw e t
-
 ruled_asleep : {a : ℕ} {p : List ℕ} {r : Rule} {a' : ℕ} {c : Bool} → Ruled a p r a' c → a' ≡ 0 → a ≡ 0
 ruled_asleep taken_off e = e
 ruled_asleep (address some few) e = absurd (omega arith)
@@ -169,7 +166,7 @@ module _ (k : Book) (s : State) (a : Answer) (sent : List ℕ) (s' : State) (v :
   unheard : {st : Standing} {h : Held} → (d : effects.Done s.head.setting s.head.pantilt k.address k.last sent s' i.low (sends k.address []) s.sockets.one s.sockets.two s.head.slots.one s.head.slots.two) →
       s'.address ≡ s.address → s'.held ≡ h → Stands st h → Noted (receives k st None) s.head.setting sent s'
   unheard {st} d e g t =
-      noted (receives k st None) s.head.setting sent s' (e ∙ i.address) i.low (stands_as s'.held g t) i.asleep
+      noted (receives k st None) s.head.setting sent s' (e ∙ i.address) i.low (rw g t) i.asleep
       (effects.silent s.head.setting s.head.pantilt k.address k.last sent s' i.low i.one i.two d)
 
   whole_heard : {p : List ℕ} → Whole p → Came s none (framed s.address s.head s.sockets (Ok (Some p))) a sent s' →
@@ -178,7 +175,7 @@ module _ (k : Book) (s : State) (a : Answer) (sent : List ℕ) (s' : State) (v :
       let low : s.address ≤ 7 = subst (λ (n : ℕ). n ≤ 7) (sym i.address) i.low in
       let r = ruled s.address low w in
       let m = met_packet s p sent s' (λ t. small_of t (s.head.setting t) (v.each t)) low k.one k.two i.one i.two w r (record { packets = c.packets; head = c.head; sockets = c.sockets }) in
-      noted (receives (as_at s.address) between (Some p)) s.head.setting sent s' (c.address ∙ m.then) m.low (stands_as s'.held c.held nowhere)
+      noted (receives (as_at s.address) between (Some p)) s.head.setting sent s' (c.address ∙ m.then) m.low (rw c.held nowhere)
       (λ z. let q = i.asleep (sym i.address ∙ ruled_asleep r z) in (shut_closed (clearing s.address p) k.one q.0, shut_closed (clearing s.address p) k.two q.1))
       m.after
 
@@ -203,10 +200,10 @@ still : (k : Book) (s s' : State) → Inv k s → Same s.head s'.head → s'.soc
 still k s s' i h c e g = record {
   address = e ∙ i.address;
   low = i.low;
-  stands = stands_as s'.held g i.stands;
+  stands = rw g i.stands;
   asleep = i.asleep;
-  one = tied _ _ (ap (λ (x : Sockets). x.one) c) (ap (λ (x : Slots). x.one) h.slots) i.one;
-  two = tied _ _ (ap (λ (x : Sockets). x.two) c) (ap (λ (x : Slots). x.two) h.slots) i.two;
+  one = rw (c, h.slots) i.one;
+  two = rw (c, h.slots) i.two;
 }
 
 -- a call with a short buffer
@@ -242,7 +239,7 @@ tick_goes k s n a sent s' true w i d =
     let h = c.head in
     let says = subst (λ (z : ℕ). sent ≡ ended (own_header z) 1 e.one ++ ended (own_header z) 2 e.two) i.address c.packets in
     let r = after_tick k.address k.last sent s' e i.low (awake k.address k.one k.two (eqb k.address 0) refl i.asleep) i.one i.two h.one h.two c.sockets says in
-    let q = noted (ages k) s'.head.setting sent s' (c.address ∙ i.address) i.low (stands_as s'.held c.held i.stands)
+    let q = noted (ages k) s'.head.setting sent s' (c.address ∙ i.address) i.low (rw c.held i.stands)
     (λ z. let y = i.asleep z in (ap older y.0, ap older y.1)) r in
     record {
       inv = rw w q.inv;
@@ -275,10 +272,10 @@ just_made : {m : Meaning} {s : State} → Made m s → Inv fresh s
 just_made {s = s} d = record {
   address = d.address;
   low = omega arith;
-  stands = stands_as s.held d.held nowhere;
+  stands = rw d.held nowhere;
   asleep = λ z. (refl, refl);
-  one = tied _ _ (ap (λ (x : Sockets). x.one) d.sockets) (ap (λ (x : Slots). x.one) d.head.slots) rests;
-  two = tied _ _ (ap (λ (x : Sockets). x.two) d.sockets) (ap (λ (x : Slots). x.two) d.head.slots) rests;
+  one = rw (d.sockets, d.head.slots) rests;
+  two = rw (d.sockets, d.head.slots) rests;
 }
 
 pub in_range_in : {m : Meaning} {h : List Entry} {s : State} → Run m h s → InRange s

@@ -53,8 +53,7 @@ module _ (a : ℕ) (p sent : List ℕ) (f : Setting → ℤ) (s' : State) (low :
       sent ≡ ended (own_header a) 1 e₁ ++ ended (own_header a) 2 e₂ → FromOpen e₁ l₁ → FromOpen e₂ l₂ →
       Tied (closes e₁ l₁) k'.one c'.one → Tied (closes e₂ l₂) k'.two c'.two → After a p l₁ l₂ sent f s'
   told None None k' c' h c g e o₁ o₂ t₁ t₂ =
-      after_read a p sent f s' k' c' h c g l₁ l₂
-      (subst (λ (bs : List ℕ). Read a 1 p bs l₁ l₁) (sym e) (read_none a 1 p l₁)) (subst (λ (bs : List ℕ). Read a 2 p bs l₂ l₂) (sym e) (read_none a 2 p l₂)) t₁ t₂
+      after_read a p sent f s' k' c' h c g [] l₁ l₂ e (read_none a 1 p l₁) (read_none a 2 p l₂) t₁ t₂
   told None (Some Done) k' c' h c g e o₁ o₂ t₁ t₂ = after_owns a p sent f s' k' c' h c g (Completion 2 ∷ []) l₁ l₂ low (awake (inr o₂)) e (tt, tt) (o₂, tt) t₁ t₂
   told None (Some Jammed) k' c' h c g e o₁ o₂ t₁ t₂ = after_owns a p sent f s' k' c' h c g (Error 2 NotExecutable ∷ []) l₁ l₂ low (awake (inr o₂)) e (tt, tt) (o₂, tt) t₁ t₂
   told (Some Done) None k' c' h c g e o₁ o₂ t₁ t₂ = after_owns a p sent f s' k' c' h c g (Completion 1 ∷ []) l₁ l₂ low (awake (inl o₁)) e (o₁, tt) (tt, tt) t₁ t₂

@@ -40,22 +40,18 @@ pub record After (a : ℕ) (p : List ℕ) (l₁ l₂ : Seen) (sent : List ℕ) (
   pub order_two : InOrder a 2 p (cut sent) l₂
   pub settings : (t : Setting) → s'.head.setting t ≡ f t
 
-tied_line : {l l' : Seen} {x : Option Order} {c : Slot} → l ≡ l' → Tied l' x c → Tied l x c
-tied_line e t = rw e t
-
 module _ (a : ℕ) (p sent : List ℕ) (f : Setting → ℤ) (s' : State) (k' : Sockets) (c' : Slots) (stand : s'.sockets ≡ k') (slots : s'.head.slots ≡ c') (settings : (t : Setting) → s'.head.setting t ≡ f t) where
-  pub after_read : (l₁ l₂ : Seen) {l₁' l₂' : Seen} → Read a 1 p sent l₁ l₁' → Read a 2 p sent l₂ l₂' → Tied l₁' k'.one c'.one → Tied l₂' k'.two c'.two → After a p l₁ l₂ sent f s'
-  after_read l₁ l₂ r₁ r₂ t₁ t₂ = record {
-    one = tied_line r₁.line (tied _ _ (ap (λ (k : Sockets). k.one) stand) (ap (λ (c : Slots). c.one) slots) t₁);
-    two = tied_line r₂.line (tied _ _ (ap (λ (k : Sockets). k.two) stand) (ap (λ (c : Slots). c.two) slots) t₂);
-    order_one = r₁.order;
-    order_two = r₂.order;
+  -- by what is read in the bytes that they are
+  pub after_read : (bytes : List ℕ) (l₁ l₂ : Seen) {l₁' l₂' : Seen} → sent ≡ bytes → Read a 1 p bytes l₁ l₁' → Read a 2 p bytes l₂ l₂' → Tied l₁' k'.one c'.one → Tied l₂' k'.two c'.two →
+      After a p l₁ l₂ sent f s'
+  after_read bytes l₁ l₂ e r₁ r₂ t₁ t₂ = record {
+    one = rw (e, r₁.line, stand, slots) t₁;
+    two = rw (e, r₂.line, stand, slots) t₂;
+    order_one = rw e r₁.order;
+    order_two = rw e r₂.order;
     settings = settings;
   }
 
   pub after_owns : (rs : List Reply) (l₁ l₂ : Seen) → a ≤ 7 → eqb a 0 ≡ false → sent ≡ owns a rs → AllDue p 1 rs l₁ → AllDue p 2 rs l₂ →
       Tied (spoken p 1 rs l₁) k'.one c'.one → Tied (spoken p 2 rs l₂) k'.two c'.two → After a p l₁ l₂ sent f s'
-  after_owns rs l₁ l₂ low has e d₁ d₂ t₁ t₂ =
-      after_read l₁ l₂
-      (subst (λ (bs : List ℕ). Read a 1 p bs l₁ (spoken p 1 rs l₁)) (sym e) (read_owns a low has 1 p rs l₁ d₁))
-      (subst (λ (bs : List ℕ). Read a 2 p bs l₂ (spoken p 2 rs l₂)) (sym e) (read_owns a low has 2 p rs l₂ d₂)) t₁ t₂
+  after_owns rs l₁ l₂ low has e d₁ d₂ t₁ t₂ = after_read (owns a rs) l₁ l₂ e (read_owns a low has 1 p rs l₁ d₁) (read_owns a low has 2 p rs l₂ d₂) t₁ t₂
