@@ -3,6 +3,7 @@ use Rattle.std.proofs.Common.{◌≡◌, ℕ, pos, negsuc, ◌+◌, ◌/◌, ◌
 use Rattle.std.proofs.Math.Bool.{and-false}
 use Rattle.std.proofs.lemmas.Bool.{eqb-true, ne_eqb, or_parts}
 use Rattle.std.proofs.lemmas.Int.{ints}
+use Rattle.std.proofs.lemmas.List.{append-nil}
 use Rattle.end.specs.declared.socket.Sockets.{Sockets}
 use Rattle.end.specs.Book.{Seen, closed, working, other as nothing_said}
 use Rattle.end.specs.Deeds.{DidHead, sockets_after, clears, starts, displaces, Given}
@@ -127,11 +128,11 @@ module _ (f : Setting → ℤ) (pt : Bool) (a : ℕ) (p sent : List ℕ) (s' : S
 
   module _ (has : eqb a 0 ≡ false) where
     -- a reply that says nothing of a socket
-    replied : {l₁ l₂ : Seen} {x₁ x₂ : Option Order} {c₁ c₂ : Slot} (r : Reply) → own a r ++ [] ≡ own a r → said 1 r ≡ nothing_said → said 2 r ≡ nothing_said →
+    replied : {l₁ l₂ : Seen} {x₁ x₂ : Option Order} {c₁ c₂ : Slot} (r : Reply) → said 1 r ≡ nothing_said → said 2 r ≡ nothing_said →
         Tied l₁ x₁ c₁ → Tied l₂ x₂ c₂ → Done (sends a (own a r)) x₁ x₂ c₁ c₂ → After a p l₁ l₂ sent f s'
-    replied {l₁} {l₂} {x₁} {x₂} {c₁} {c₂} r one q₁ q₂ t₁ t₂ d =
+    replied {l₁} {l₂} {x₁} {x₂} {c₁} {c₂} r q₁ q₂ t₁ t₂ d =
         after_owns a p sent f s' (both x₁ x₂) (record { one = c₁; two = c₂ }) d.sockets d.head.slots d.head.kept.setting (r ∷ []) l₁ l₂ low has
-        (d.packets ∙ sym one) (rw q₁ (tt, tt)) (rw q₂ (tt, tt)) (rw q₁ t₁) (rw q₂ t₂)
+        (d.packets ∙ sym (append-nil (own a r))) (rw q₁ (tt, tt)) (rw q₂ (tt, tt)) (rw q₁ t₁) (rw q₂ t₂)
 
     pub wiped_here : (x₁ x₂ : Option Order) (c₁ c₂ : Slot) → Done (does a clears (own a (Completion 0))) x₁ x₂ c₁ c₂ → After a p closed closed sent f s'
     wiped_here x₁ x₂ c₁ c₂ d =
@@ -198,14 +199,14 @@ module _ (f : Setting → ℤ) (pt : Bool) (a : ℕ) (p sent : List ℕ) (s' : S
     allowed o r fit rests rests d = started_one o r fit rests refl d
     allowed o r fit rests (works {p = q} {n = n} {o = o'} x y z) d = one_or_displaced (meets (Some o') o) o q n r fit refl refl (works x y z) d
     allowed o r fit (works {p = q} {n = n} {o = o'} x y z) rests d = two_or_displaced (meets (Some o') o) o q n r fit refl refl (works x y z) d
-    allowed o r fit (works x y z) (works x' y' z') d = replied (Error 0 BufferFull) refl refl refl (works x y z) (works x' y' z') d
+    allowed o r fit (works x y z) (works x' y' z') d = replied (Error 0 BufferFull) refl refl (works x y z) (works x' y' z') d
 
     forbidden : {l₁ l₂ : Seen} {x₁ x₂ : Option Order} {c₁ c₂ : Slot} (o : Order) → Tied l₁ x₁ c₁ → Tied l₂ x₂ c₂ →
         Done (commanded_if true (both x₁ x₂) o) x₁ x₂ c₁ c₂ → After a p l₁ l₂ sent f s'
-    forbidden o rests rests d = replied (Error 0 NotExecutable) refl refl refl rests rests d
-    forbidden o rests (works x y z) d = replied (Error 0 NotExecutable) refl refl refl rests (works x y z) d
-    forbidden o (works x y z) rests d = replied (Error 0 NotExecutable) refl refl refl (works x y z) rests d
-    forbidden o (works x y z) (works x' y' z') d = replied (Error 0 BufferFull) refl refl refl (works x y z) (works x' y' z') d
+    forbidden o rests rests d = replied (Error 0 NotExecutable) refl refl rests rests d
+    forbidden o rests (works x y z) d = replied (Error 0 NotExecutable) refl refl rests (works x y z) d
+    forbidden o (works x y z) rests d = replied (Error 0 NotExecutable) refl refl (works x y z) rests d
+    forbidden o (works x y z) (works x' y' z') d = replied (Error 0 BufferFull) refl refl (works x y z) (works x' y' z') d
 
     command : {l₁ l₂ : Seen} {x₁ x₂ : Option Order} {c₁ c₂ : Slot} (t : Bool) (o : Order) → read_as p ≡ Some o → all_in_range (parts o.targets) ≡ true →
         forbidden_by f pt (powering_in (both x₁ x₂)) o ≡ t → Tied l₁ x₁ c₁ → Tied l₂ x₂ c₂ →
@@ -215,13 +216,13 @@ module _ (f : Setting → ℤ) (pt : Bool) (a : ℕ) (p sent : List ℕ) (s' : S
 
     -- a cancel
     cancel_one : {l₁ l₂ : Seen} {x₁ x₂ : Option Order} {c₁ c₂ : Slot} → Tied l₁ x₁ c₁ → Tied l₂ x₂ c₂ → Done (cancelled a (both x₁ x₂) 1) x₁ x₂ c₁ c₂ → After a p l₁ l₂ sent f s'
-    cancel_one rests t₂ d = replied (Error 1 NoSocket) refl refl refl rests t₂ d
+    cancel_one rests t₂ d = replied (Error 1 NoSocket) refl refl rests t₂ d
     cancel_one {l₂ = l₂} {x₂ = x₂} {c₂ = c₂} (works {p = q} {n = n} r x y) t₂ d =
         after_owns a p sent f s' (both None x₂) (record { one = idle; two = c₂ }) d.sockets d.head.now_idle d.head.kept.setting
         (Error 1 CancelledCommand ∷ []) (working q n) l₂ low has d.packets (refl, tt) (tt, tt) rests t₂
 
     cancel_two : {l₁ l₂ : Seen} {x₁ x₂ : Option Order} {c₁ c₂ : Slot} → Tied l₁ x₁ c₁ → Tied l₂ x₂ c₂ → Done (cancelled a (both x₁ x₂) 2) x₁ x₂ c₁ c₂ → After a p l₁ l₂ sent f s'
-    cancel_two t₁ rests d = replied (Error 2 NoSocket) refl refl refl t₁ rests d
+    cancel_two t₁ rests d = replied (Error 2 NoSocket) refl refl t₁ rests d
     cancel_two {l₁ = l₁} {x₁ = x₁} {c₁ = c₁} t₁ (works {p = q} {n = n} r x y) d =
         after_owns a p sent f s' (both x₁ None) (record { one = c₁; two = idle }) d.sockets d.head.now_idle d.head.kept.setting
         (Error 2 CancelledCommand ∷ []) l₁ (working q n) low has d.packets (tt, tt) (refl, tt) t₁ rests
@@ -239,7 +240,7 @@ module _ (f : Setting → ℤ) (pt : Bool) (a : ℕ) (p sent : List ℕ) (s' : S
     cancel {x₁ = x₁} {x₂ = x₂} {c₁ = c₁} {c₂ = c₂} y false false e g t₁ t₂ d =
         let none : socket_at (both x₁ x₂) y ≡ None = rw (e, g) refl in
         let r : cancelled a (both x₁ x₂) y ≡ sends a (own a (Error y NoSocket)) = rw none refl in
-        replied (Error y NoSocket) refl (no_socket_said 1 y) (no_socket_said 2 y) t₁ t₂ (subst (λ (o : Outcome). Done o x₁ x₂ c₁ c₂) r d)
+        replied (Error y NoSocket) (no_socket_said 1 y) (no_socket_said 2 y) t₁ t₂ (subst (λ (o : Outcome). Done o x₁ x₂ c₁ c₂) r d)
 
     -- an inquiry
     pan_tilt_plain : ((t : Setting) → Small (f t)) → (b : Bool) → Plain (inquiry.told PanTilt f Pan b)
@@ -277,4 +278,4 @@ module _ (f : Setting → ℤ) (pt : Bool) (a : ℕ) (p sent : List ℕ) (s' : S
     request {x₁ = x₁} {x₂ = x₂} (Ok (Command row o)) e small t₁ t₂ d =
         command (forbidden_by f pt (powering_in (both x₁ x₂)) o) o (ap ordered e) (body_in_range (body_of p) row o e) refl t₁ t₂ d
     request (Ok (Ask q)) e small t₁ t₂ d = inquire q small t₁ t₂ d
-    request (Err f) e small t₁ t₂ d = replied (Error 0 Syntax) refl refl refl t₁ t₂ (record { packets = d.packets; head = d.head; sockets = d.sockets })
+    request (Err f) e small t₁ t₂ d = replied (Error 0 Syntax) refl refl t₁ t₂ (record { packets = d.packets; head = d.head; sockets = d.sockets })

@@ -1,6 +1,6 @@
 -- The law of the sockets, for every run.
 use Rattle.std.proofs.Common.{◌≡◌, ℕ, ◌-◌, ◌≤◌, Bool, true, false, cond, eqb, leb, ◌⊎◌, List, [], ◌∷◌, ◌++◌, length, ℤ, Some, None, Ok, Err, Option, Result, sym, refl, ap, ◌∙◌, subst, inl, inr, arith}
-use Rattle.std.proofs.lemmas.Bool.{eqb-true, leb-true, leb-false, true≢false}
+use Rattle.std.proofs.lemmas.Bool.{eqb-true, leb-true, leb-false}
 use Rattle.end.specs.declared.call.Call.{Call}
 use Rattle.end.specs.declared.call.Call.TheVariants.{Byte, Tick, Open}
 use Rattle.end.specs.declared.fault.Cause.TheVariants.{ShortBuffer}
@@ -19,7 +19,7 @@ use Rattle.end.proofs.Ruled.{Ruled, taken_off, address, cleared_for_all, sent_on
 use Rattle.end.proofs.Ticking.{after_tick, changed}
 use Rattle.end.proofs.Tied.{Tied, rests, tied_open, tied_holds, tied_in_time, After}
 use Rattle.head.specs.declared.setting.Setting.{Setting}
-use Rattle.head.specs.Meaning.{Meaning, Slots}
+use Rattle.head.specs.Meaning.{Meaning}
 use Rattle.head.specs.Settings.{Small}
 use Rattle.head.proofs.Bounds.{small as small_of}
 use Rattle.rows.specs.declared.fault.PacketFault.{PacketFault}

@@ -1,13 +1,13 @@
 -- What a tick leaves of the tie between book, end and head, and which settings it may change.
-use Rattle.std.proofs.Common.{◌≡◌, ℕ, zero, suc, ◌≤◌, true, false, eqb, ◌⊎◌, List, [], ◌∷◌, ◌++◌, ℤ, pos, negsuc, Some, None, Option, sym, refl, ◌∙◌, subst, inl, inr, arith}
+use Rattle.std.proofs.Common.{◌≡◌, ℕ, zero, suc, ◌+◌, ◌-◌, ◌≤◌, true, false, eqb, ◌⊎◌, List, [], ◌∷◌, ◌++◌, ℤ, pos, negsuc, Some, None, Option, sym, refl, ◌∙◌, subst, inl, inr, arith}
 use Rattle.end.specs.declared.socket.Sockets.{Sockets}
 use Rattle.end.specs.Book.{Seen, closed, working, older}
 use Rattle.end.specs.Deeds.{settled}
 use Rattle.end.specs.Law.{read_as, open_by, names_by, Named, Driven}
 use Rattle.end.specs.Outcomes.{own_header, ended}
 use Rattle.end.specs.States.{State}
-use Rattle.end.proofs.Spoken.{read_none, Read}
-use Rattle.end.proofs.Tied.{Tied, rests, works, tied, After, after_read, after_owns}
+use Rattle.end.proofs.Spoken.{read_none}
+use Rattle.end.proofs.Tied.{Tied, rests, works, After, after_read, after_owns}
 use Rattle.head.specs.declared.order.Order.{Order}
 use Rattle.head.specs.declared.outcome.Ending.{Ending}
 use Rattle.head.specs.declared.outcome.Ending.TheVariants.{Done, Jammed}
@@ -28,10 +28,10 @@ closes None l = l
 closes (Some e) l = closed
 
 ticked : {l : Seen} {x : Option Order} {c : Slot} (e : Option Ending) (c' : Slot) → Tied l x c → SlotTicked c e c' → Tied (closes e (older l)) (settled e x) c'
-ticked None c' rests t = tied None c' refl t rests
+ticked None c' rests t = rw t rests
 ticked (Some e) c' rests t = elim t [ ]
-ticked None c' (works {o = o} r low high) t = tied (Some o) c' refl t.1 (works r (omega (arith, t.0)) (omega (arith, t.0)))
-ticked (Some e) c' (works r low high) t = tied None c' refl t.1 rests
+ticked None c' (works {n = n} {m = m} r low high) t = rw t.1 (works {n = n + 1} {m = m - 1} r (omega (arith, t.0)) (omega (arith, t.0)))
+ticked (Some e) c' (works r low high) t = rw t.1 rests
 
 -- an ending is told only of an open socket
 abbrev FromOpen : Option Ending → Seen → Type 0

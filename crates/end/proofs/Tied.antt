@@ -1,22 +1,19 @@
 -- A socket by the book, by the end and by the head: what is kept from call to call.
-use Rattle.std.proofs.Common.{◌≡◌, ℕ, ◌+◌, ◌≤◌, false, eqb, List, ℤ, Some, None, Option, sym, refl, ap, subst, arith}
+use Rattle.std.proofs.Common.{◌≡◌, ℕ, ◌+◌, ◌≤◌, false, eqb, List, ℤ, Some, None, Option, sym, refl, arith}
 use Rattle.end.specs.declared.socket.Sockets.{Sockets}
 use Rattle.end.specs.Book.{Seen, closed, working, cut, reads}
 use Rattle.end.specs.Law.{read_as, open_by, Holds, InOrder, InTime}
-use Rattle.end.specs.Sockets.{is_open, meets}
+use Rattle.end.specs.Sockets.{is_open}
 use Rattle.end.specs.States.{State}
 use Rattle.end.proofs.Spoken.{Read, owns, spoken, AllDue, read_owns}
 use Rattle.head.specs.declared.order.Order.{Order}
 use Rattle.head.specs.declared.setting.Setting.{Setting}
-use Rattle.head.specs.Meaning.{Slot, Slots, idle, busy, order_in, in_use}
+use Rattle.head.specs.Meaning.{Slot, Slots, idle, busy}
 use Rattle.rules.specs.declared.reply.Reply.{Reply}
 
 pub data Tied : Seen → Option Order → Slot → Type 0 where
   rests : Tied closed None idle
   works : {p : List ℕ} {n m : ℕ} {o : Order} → read_as p ≡ Some o → 1 ≤ m → n + m ≤ 1000 → Tied (working p n) (Some o) (busy o m)
-
-pub tied : {l : Seen} {x : Option Order} {c : Slot} (x' : Option Order) (c' : Slot) → x' ≡ x → c' ≡ c → Tied l x c → Tied l x' c'
-tied x' c' e h t = rw (e, h) t
 
 -- What the law says of it.
 

@@ -1,4 +1,4 @@
-use Rattle.std.proofs.Common.{◌∙◌, ◌+◌, ◌++◌, ℕ, sym, ap, ◌≡◌, ◌-◌, List, length, take, drop, refl, subst, arith, length-drop, length-take, rules}
+use Rattle.std.proofs.Common.{◌∙◌, ◌+◌, ◌++◌, ℕ, sym, ap, ◌≡◌, ◌-◌, List, length, take, drop, refl, subst, arith}
 use Rattle.std.proofs.Math.Seq.{take-add}
 use Rattle.std.proofs.lemmas.List.{drop-drop, take_more, take_all, length-take-le}
 use Rattle.end.specs.declared.call.Call.{Call}

@@ -1,4 +1,3 @@
-use Rattle.std.proofs.Common.{rules}
 use Rattle.end.proofs.script.serve.Goals as goal
 
 pub returns-in-Byte-clause-served : goal.returns-in-Byte-clause-served
