@@ -12,8 +12,8 @@ use Rattle.wire.specs.Framing.{Held}
 
 counted : (r : Result ℕ Fault) (bytes : List ℕ) (f : Option Cause) → answered r ≡ answer_with bytes f → count r ≡ length bytes
 counted (Ok n) bytes None e = cc
-counted (Ok n) bytes (Some f) e = let z : ◌≡◌ {A = ℕ} 0 1 = cc in absurd (omega arith)
-counted (Err g) bytes None e = let z : ◌≡◌ {A = ℕ} 0 1 = cc in absurd (omega arith)
+counted (Ok n) bytes (Some f) e = cc
+counted (Err g) bytes None e = cc
 counted (Err g) bytes (Some f) e = cc
 
 came_within : (s : State) (h : Held) (o : Outcome) (r : Result ℕ Fault) (xs : List ℕ) (s' : State) → Came s h o (answered r) (take (count r) xs) s' → count r ≤ length xs

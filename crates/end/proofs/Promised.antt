@@ -4,8 +4,6 @@ use Rattle.std.proofs.lemmas.Bool.{true≢false, eqb-false, eq-eqb, ne_eqb}
 use Rattle.end.specs.declared.call.Call.{Call}
 use Rattle.end.specs.declared.call.Call.TheVariants.{Byte, Tick, Open}
 use Rattle.end.specs.Book.{Book, Entry, Standing, inside, Seen, closed, working, Word, acknowledges, ends, other, word, told, cut, reads, receives, ages, notes, made_whole, standing_after, clearing, accepted, enters, book_of}
-use Rattle.end.specs.declared.socket.Socket.{Socket}
-use Rattle.end.specs.declared.socket.Socket.TheVariants.{Closed}
 use Rattle.end.specs.declared.socket.Sockets.{Sockets}
 use Rattle.end.specs.Deeds.{cancels}
 use Rattle.end.specs.Faults.{Answer, counts}
@@ -19,6 +17,7 @@ use Rattle.end.specs.Steps.{Came}
 use Rattle.end.proofs.Heard.{Stands, nowhere, within, passing}
 use Rattle.end.proofs.Runs.{Inv, awake, in_range_in, kept, goes, call_law}
 use Rattle.end.proofs.Tied.{Tied, rests, works, tied_open, tied_in_time}
+use Rattle.head.specs.declared.order.Order.{Order}
 use Rattle.head.specs.Meaning.{Meaning, Slot}
 use Rattle.rules.specs.declared.reply.Problem.TheVariants.{Cancelled as CancelledCommand, NoSocket}
 use Rattle.rules.specs.declared.reply.Reply.TheVariants.{Error}
@@ -134,13 +133,13 @@ every_acknowledged_command_is_ended m h later s r y number p n at many = ended m
 -- A cancel.
 
 stands_inside : {st : Standing} {hd : Held} (bs : List ℕ) → Stands st hd → st ≡ inside bs → hd ≡ begun bs
-stands_inside bs nowhere e = let z : ◌≡◌ {A = ℕ} 0 1 = cc in absurd (omega arith)
+stands_inside bs nowhere e = cc
 stands_inside bs (within plain low high) e = cc
-stands_inside bs passing e = let z : ◌≡◌ {A = ℕ} 0 1 = cc in absurd (omega arith)
+stands_inside bs passing e = cc
 
-closed_tied : {l : Seen} {x : Socket} {c : Slot} → Tied l x c → x ≡ Closed → l ≡ closed
+closed_tied : {l : Seen} {x : Option Order} {c : Slot} → Tied l x c → x ≡ None → l ≡ closed
 closed_tied rests e = refl
-closed_tied (works r low high) e = let z : ◌≡◌ {A = ℕ} 0 1 = cc in absurd (omega arith)
+closed_tied (works r low high) e = cc
 
 abbrev cancel_of : ℕ → ℕ → List ℕ
 cancel_of a y = (0x80 + a) ∷ (0x20 + y) ∷ 0xff ∷ []
@@ -165,7 +164,7 @@ has_address : {y : ℕ} → Number y → (k : Book) (s : State) (p : List ℕ) (
 has_address one k s p n i e = awake k.address k.one k.two (eqb k.address 0) refl i.asleep (inl (working_open k.one p n e))
 has_address two k s p n i e = awake k.address k.one k.two (eqb k.address 0) refl i.asleep (inr (working_open k.two p n e))
 
-closed_at : {y : ℕ} → Number y → (k : Book) (s : State) (x : Sockets) → Inv k s → s.sockets ≡ with_socket x y Closed → seen_at k y ≡ closed
+closed_at : {y : ℕ} → Number y → (k : Book) (s : State) (x : Sockets) → Inv k s → s.sockets ≡ with_socket x y None → seen_at k y ≡ closed
 closed_at one k s x i e = closed_tied i.one (ap (λ (z : Sockets). z.one) e)
 closed_at two k s x i e = closed_tied i.two (ap (λ (z : Sockets). z.two) e)
 

@@ -1,5 +1,6 @@
 -- The book takes a whole packet for a clearing, and for one that sets the address, exactly where the rules of the ring do.
 use Rattle.std.proofs.Common.{◌≡◌, ℕ, suc, ◌+◌, ◌-◌, ◌/◌, ◌%◌, ◌≤◌, Bool, true, false, cond, not, ◌&&◌, ◌||◌, eqb, ltb, leb, List, [], ◌∷◌, ◌++◌, length, get_or, Some, None, sym, refl, ap, ◌∙◌, subst, inl, inr, append_assoc, arith}
+use Rattle.std.proofs.Math.Dec.{eqb-suc-suc}
 use Rattle.std.proofs.lemmas.List.{get_or_at, take_at, length_push}
 use Rattle.std.proofs.lemmas.Bool.{eqb-true, eqb-false, eq-eqb, ne_eqb, lt-ltb, leb-true, and_parts, and_left, and_right, or_parts, or_cases, not-true, not-false}
 use Rattle.end.specs.Book.{same, sets_address, address_after, clearing}
@@ -16,16 +17,12 @@ and_swap true y z = refl
 and_swap false true z = refl
 and_swap false false z = refl
 
-suc_eqb : (m n : ℕ) (t : Bool) → eqb m n ≡ t → eqb (suc m) (suc n) ≡ t
-suc_eqb m n true e = eq-eqb (suc m) (suc n) (ap suc (eqb-true m n e))
-suc_eqb m n false e = let d = eqb-false m n e in ne_eqb (suc m) (suc n) (λ q. d (omega arith))
-
 stand_same : (i : ℕ) (front bs ds : List ℕ) → length front ≡ i → (eqb (length bs) (length ds) && stand_at i (front ++ bs) ds) ≡ same bs ds
 stand_same i front [] [] e = refl
 stand_same i front [] (d ∷ ds) e = and_left (eqb 0 (suc (length ds))) _ (ne_eqb 0 (suc (length ds)) (λ q. omega arith))
 stand_same i front (b ∷ bs) [] e = and_left (eqb (suc (length bs)) 0) _ (ne_eqb (suc (length bs)) 0 (λ q. omega arith))
 stand_same i front (b ∷ bs) (d ∷ ds) e =
-    let l = suc_eqb (length bs) (length ds) (eqb (length bs) (length ds)) refl in
+    let l = eqb-suc-suc (length bs) (length ds) in
     let g : get_or (front ++ b ∷ bs) i 0 ≡ b = get_or_at front b bs 0 i e in
     let f : (front ++ b ∷ []) ++ bs ≡ front ++ b ∷ bs = append_assoc front (b ∷ []) bs in
     let n : length (front ++ b ∷ []) ≡ suc i = length_push front b ∙ omega arith in
@@ -37,10 +34,6 @@ stand_same i front (b ∷ bs) (d ∷ ds) e =
 
 are_same : (bs ds : List ℕ) → are bs ds ≡ same bs ds
 are_same bs ds = stand_same 0 [] bs ds refl
-
--- bytes that begin otherwise are not the same
-other_header : (h : ℕ) (bs ds : List ℕ) (d : ℕ) → eqb h d ≡ false → same (h ∷ bs) (d ∷ ds) ≡ false
-other_header h bs ds d e = and_left (eqb h d) (same bs ds) e
 
 -- one more at both ends
 same_push : (bs ds : List ℕ) (x : ℕ) → same (bs ++ x ∷ []) (ds ++ x ∷ []) ≡ same bs ds

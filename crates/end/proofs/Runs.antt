@@ -1,6 +1,6 @@
 -- The law of the sockets, for every run.
 use Rattle.std.proofs.Common.{◌≡◌, ℕ, ◌-◌, ◌≤◌, Bool, true, false, cond, eqb, leb, ◌⊎◌, List, [], ◌∷◌, ◌++◌, length, ℤ, Some, None, Ok, Err, Option, Result, sym, refl, ap, ◌∙◌, subst, inl, inr, arith}
-use Rattle.std.proofs.lemmas.Bool.{eqb-true, leb-true, leb-false, true≢false}
+use Rattle.std.proofs.lemmas.Bool.{eqb-true, leb-true, leb-false}
 use Rattle.end.specs.declared.call.Call.{Call}
 use Rattle.end.specs.declared.call.Call.TheVariants.{Byte, Tick, Open}
 use Rattle.end.specs.declared.fault.Cause.TheVariants.{ShortBuffer}
@@ -8,7 +8,7 @@ use Rattle.end.specs.declared.socket.Sockets.{Sockets}
 use Rattle.end.specs.Book.{Book, Entry, Standing, Seen, closed, between, cut, reads, receives, sees, ages, older, notes, accepted, enters, book_of, fresh, clearing}
 use Rattle.end.specs.Deeds.{Same}
 use Rattle.end.specs.Faults.{Answer, opens}
-use Rattle.end.specs.Law.{Run, Lawful, Law, Agreement, InOrder, InTime, MayChange, open_by, entry, Keeps, Played, room_for, SocketsAgreeInEveryRun}
+use Rattle.end.specs.Law.{Run, Lawful, Law, Agreement, InOrder, InTime, MayChange, open_by, entry, Keeps, Played, Served, room_for, SocketsAgreeInEveryRun}
 use Rattle.end.specs.Law as law
 use Rattle.end.specs.Outcomes.{Outcome, own_header, sends, fails, framed, met, ended, requested as asked-for}
 use Rattle.end.specs.States.{State, InRange}
@@ -17,9 +17,9 @@ use Rattle.end.proofs.Effects as effects
 use Rattle.end.proofs.Heard.{Stands, nowhere, Heard, nothing, faulty, packet, heard, Whole}
 use Rattle.end.proofs.Ruled.{Ruled, taken_off, address, cleared_for_all, sent_on, cleared, cancelled, requested, ruled}
 use Rattle.end.proofs.Ticking.{after_tick, changed}
-use Rattle.end.proofs.Tied.{Tied, rests, tied, tied_open, tied_holds, tied_in_time, After}
+use Rattle.end.proofs.Tied.{Tied, rests, tied_open, tied_holds, tied_in_time, After}
 use Rattle.head.specs.declared.setting.Setting.{Setting}
-use Rattle.head.specs.Meaning.{Meaning, Slots}
+use Rattle.head.specs.Meaning.{Meaning}
 use Rattle.head.specs.Settings.{Small}
 use Rattle.head.proofs.Bounds.{small as small_of}
 use Rattle.rows.specs.declared.fault.PacketFault.{PacketFault}
@@ -53,8 +53,8 @@ pub awake : (a : ℕ) (l₁ l₂ : Seen) (t : Bool) → eqb a 0 ≡ t → (a ≡
 awake a l₁ l₂ true e h w =
     let c = h (eqb-true a 0 e) in
     elim w [
-      | inl o ↦ absurd (true≢false (sym o ∙ ap open_by c.0))
-      | inr o ↦ absurd (true≢false (sym o ∙ ap open_by c.1))
+      | inl o ↦ let q = ap open_by c.0 in cc
+      | inr o ↦ let q = ap open_by c.1 in cc
     ]
 awake a l₁ l₂ false e h w = e
 
@@ -145,9 +145,6 @@ noted k f sent s' e low st asleep r = record {
   settings = r.settings;
 }
 
-stands_as : {st : Standing} {h : Held} (h' : Held) → h' ≡ h → Stands st h → Stands st h'
-stands_as h' e t = rw e t
-
 ruled_asleep : {a : ℕ} {p : List ℕ} {r : Rule} {a' : ℕ} {c : Bool} → Ruled a p r a' c → a' ≡ 0 → a ≡ 0
 ruled_asleep taken_off e = e
 ruled_asleep (address some few) e = absurd (omega arith)
@@ -169,7 +166,7 @@ module _ (k : Book) (s : State) (a : Answer) (sent : List ℕ) (s' : State) (v :
   unheard : {st : Standing} {h : Held} → (d : effects.Done s.head.setting s.head.pantilt k.address k.last sent s' i.low (sends k.address []) s.sockets.one s.sockets.two s.head.slots.one s.head.slots.two) →
       s'.address ≡ s.address → s'.held ≡ h → Stands st h → Noted (receives k st None) s.head.setting sent s'
   unheard {st} d e g t =
-      noted (receives k st None) s.head.setting sent s' (e ∙ i.address) i.low (stands_as s'.held g t) i.asleep
+      noted (receives k st None) s.head.setting sent s' (e ∙ i.address) i.low (rw g t) i.asleep
       (effects.silent s.head.setting s.head.pantilt k.address k.last sent s' i.low i.one i.two d)
 
   whole_heard : {p : List ℕ} → Whole p → Came s none (framed s.address s.head s.sockets (Ok (Some p))) a sent s' →
@@ -178,7 +175,7 @@ module _ (k : Book) (s : State) (a : Answer) (sent : List ℕ) (s' : State) (v :
       let low : s.address ≤ 7 = subst (λ (n : ℕ). n ≤ 7) (sym i.address) i.low in
       let r = ruled s.address low w in
       let m = met_packet s p sent s' (λ t. small_of t (s.head.setting t) (v.each t)) low k.one k.two i.one i.two w r (record { packets = c.packets; head = c.head; sockets = c.sockets }) in
-      noted (receives (as_at s.address) between (Some p)) s.head.setting sent s' (c.address ∙ m.then) m.low (stands_as s'.held c.held nowhere)
+      noted (receives (as_at s.address) between (Some p)) s.head.setting sent s' (c.address ∙ m.then) m.low (rw c.held nowhere)
       (λ z. let q = i.asleep (sym i.address ∙ ruled_asleep r z) in (shut_closed (clearing s.address p) k.one q.0, shut_closed (clearing s.address p) k.two q.1))
       m.after
 
@@ -198,21 +195,15 @@ pub record Goes (k : Book) (s : State) (e : Entry) (a : Answer) (s' : State) : T
   pub settings : (t : Setting) → (s'.head.setting t ≡ s.head.setting t) ⊎ MayChange k s.head e t
   pub answer : e.call ≡ Open → a ≡ opens (open_by k.one) (open_by k.two)
 
-byte_no_open : (b : ℕ) → Byte b ≡ Open → ⊥
-byte_no_open b e = let z : ◌≡◌ {A = ℕ} 0 1 = cc in omega arith
-
-tick_no_open : Tick ≡ Open → ⊥
-tick_no_open e = let z : ◌≡◌ {A = ℕ} 0 1 = cc in omega arith
-
 -- end and head as before, nothing sent
 still : (k : Book) (s s' : State) → Inv k s → Same s.head s'.head → s'.sockets ≡ s.sockets → s'.address ≡ s.address → s'.held ≡ s.held → Inv k s'
 still k s s' i h c e g = record {
   address = e ∙ i.address;
   low = i.low;
-  stands = stands_as s'.held g i.stands;
+  stands = rw g i.stands;
   asleep = i.asleep;
-  one = tied _ _ (ap (λ (x : Sockets). x.one) c) (ap (λ (x : Slots). x.one) h.slots) i.one;
-  two = tied _ _ (ap (λ (x : Sockets). x.two) c) (ap (λ (x : Slots). x.two) h.slots) i.two;
+  one = rw (c, h.slots) i.one;
+  two = rw (c, h.slots) i.two;
 }
 
 -- a call with a short buffer
@@ -220,8 +211,8 @@ refused : (k : Book) (s : State) (e : Entry) (a : Answer) (s' : State) → (e.ca
     Came s s.held (fails s.address ShortBuffer []) a e.sent s' → Goes k s e a s'
 refused k s e a s' never w i c = record {
   inv = rw w (still k s s' i c.head c.sockets c.address c.held);
-  order_one = λ t. absurd (true≢false (sym t ∙ w));
-  order_two = λ t. absurd (true≢false (sym t ∙ w));
+  order_one = λ t. cc;
+  order_two = λ t. cc;
   silent = λ t. c.packets;
   settings = λ t. inl (c.head.kept.setting t);
   answer = λ o. absurd (never o);
@@ -234,11 +225,11 @@ byte_goes k s b n a sent s' true w v i d =
       inv = rw w r.inv;
       order_one = λ t. r.order_one;
       order_two = λ t. r.order_two;
-      silent = λ t. absurd (true≢false (sym w ∙ t));
+      silent = λ t. cc;
       settings = λ t. inl (r.settings t);
-      answer = λ o. absurd (byte_no_open b o);
+      answer = λ o. cc;
     }
-byte_goes k s b n a sent s' false w v i d = refused k s (entry (Byte b) n sent) a s' (byte_no_open b) w i (d.short (leb-false 16 n w))
+byte_goes k s b n a sent s' false w v i d = refused k s (entry (Byte b) n sent) a s' (λ o. cc) w i (d.short (leb-false 16 n w))
 
 tick_goes : (k : Book) (s : State) (n : ℕ) (a : Answer) (sent : List ℕ) (s' : State) (w : Bool) → leb 16 n ≡ w → Inv k s → Step s Tick n a sent s' → Goes k s (entry Tick n sent) a s'
 tick_goes k s n a sent s' true w i d =
@@ -248,23 +239,23 @@ tick_goes k s n a sent s' true w i d =
     let h = c.head in
     let says = subst (λ (z : ℕ). sent ≡ ended (own_header z) 1 e.one ++ ended (own_header z) 2 e.two) i.address c.packets in
     let r = after_tick k.address k.last sent s' e i.low (awake k.address k.one k.two (eqb k.address 0) refl i.asleep) i.one i.two h.one h.two c.sockets says in
-    let q = noted (ages k) s'.head.setting sent s' (c.address ∙ i.address) i.low (stands_as s'.held c.held i.stands)
+    let q = noted (ages k) s'.head.setting sent s' (c.address ∙ i.address) i.low (rw c.held i.stands)
     (λ z. let y = i.asleep z in (ap older y.0, ap older y.1)) r in
     record {
       inv = rw w q.inv;
       order_one = λ t. q.order_one;
       order_two = λ t. q.order_two;
-      silent = λ t. absurd (true≢false (sym w ∙ t));
+      silent = λ t. cc;
       settings = λ t. elim (changed s.head s'.head e t h i.one i.two) [ inl y ↦ inl y | inr y ↦ inr (record { tick = refl; room = leb-true 16 n w; why = y }) ];
-      answer = λ o. absurd (tick_no_open o);
+      answer = λ o. cc;
     }
-tick_goes k s n a sent s' false w i d = refused k s (entry Tick n sent) a s' tick_no_open w i (d.short (leb-false 16 n w))
+tick_goes k s n a sent s' false w i d = refused k s (entry Tick n sent) a s' (λ o. cc) w i (d.short (leb-false 16 n w))
 
 open_goes : (k : Book) (s : State) (n : ℕ) (a : Answer) (sent : List ℕ) (s' : State) → Inv k s → Step s Open n a sent s' → Goes k s (entry Open n sent) a s'
 open_goes k s n a sent s' i d = record {
   inv = still k s s' i d.head d.sockets d.address d.held;
-  order_one = λ t. absurd (true≢false (sym t));
-  order_two = λ t. absurd (true≢false (sym t));
+  order_one = λ t. cc;
+  order_two = λ t. cc;
   silent = λ t. d.silent;
   settings = λ t. inl (d.head.kept.setting t);
   answer = λ o. let x = tied_open i.one in let y = tied_open i.two in d.answer ∙ rw (x, y) refl;
@@ -281,10 +272,10 @@ just_made : {m : Meaning} {s : State} → Made m s → Inv fresh s
 just_made {s = s} d = record {
   address = d.address;
   low = omega arith;
-  stands = stands_as s.held d.held nowhere;
+  stands = rw d.held nowhere;
   asleep = λ z. (refl, refl);
-  one = tied _ _ (ap (λ (x : Sockets). x.one) d.sockets) (ap (λ (x : Slots). x.one) d.head.slots) rests;
-  two = tied _ _ (ap (λ (x : Sockets). x.two) d.sockets) (ap (λ (x : Slots). x.two) d.head.slots) rests;
+  one = rw (d.sockets, d.head.slots) rests;
+  two = rw (d.sockets, d.head.slots) rests;
 }
 
 pub in_range_in : {m : Meaning} {h : List Entry} {s : State} → Run m h s → InRange s
@@ -335,12 +326,14 @@ lawful_run (law.Lawful.then e a r d v l) = law.Run.then e a (lawful_run r) d v
 pub played_none : {m : Meaning} {s : State} (n : ℕ) → InRange s → Made m s → Played m [] n [] s
 played_none n v d = record { run = []; asked = refl; logged = refl; shared = tt; lawful = every_run (law.Run.made d v) }
 
-pub played_more : (m : Meaning) (cs : List Call) (n : ℕ) (bs : List ℕ) (s : State) (c : Call) (room : ℕ) (a : Answer) (sent : List ℕ) (s' : State) →
-    room ≡ room_for c (n - length bs) → InRange s' → Step s c room a sent s' → Played m cs n bs s → Played m (cs ++ c ∷ []) n (bs ++ sent) s'
-played_more m cs n bs s c room a sent s' e w d v = record {
-  run = entry c room sent ∷ v.run;
-  asked = ap (λ (x : List Call). x ++ c ∷ []) v.asked;
-  logged = ap (λ (x : List ℕ). x ++ sent) v.logged;
-  shared = (e ∙ ap (λ (x : List ℕ). room_for c (n - length x)) (sym v.logged), v.shared);
-  lawful = law.Lawful.then (entry c room sent) a v.lawful d w (call_law (entry c room sent) a s' (lawful_run v.lawful) d);
-}
+pub played_more : (m : Meaning) (cs : List Call) (n : ℕ) (bs : List ℕ) (s : State) (c : Call) (sent : List ℕ) (s' : State) →
+    Served c (n - length bs) s sent s' → Played m cs n bs s → Played m (cs ++ c ∷ []) n (bs ++ sent) s'
+played_more m cs n bs s c sent s' d v =
+    let room = room_for c (n - length bs) in
+    record {
+      run = entry c room sent ∷ v.run;
+      asked = ap (λ (x : List Call). x ++ c ∷ []) v.asked;
+      logged = ap (λ (x : List ℕ). x ++ sent) v.logged;
+      shared = (ap (λ (x : List ℕ). room_for c (n - length x)) (sym v.logged), v.shared);
+      lawful = law.Lawful.then (entry c room sent) d.answer v.lawful d.step d.ranged (call_law (entry c room sent) d.answer s' (lawful_run v.lawful) d.step);
+    }

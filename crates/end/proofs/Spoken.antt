@@ -100,15 +100,12 @@ pub record Read (a y : ℕ) (p sent : List ℕ) (x x' : Seen) : Type 0 where
   pub line : reads a y p (cut sent) x ≡ x'
   pub order : InOrder a y p (cut sent) x
 
-read_by : (a y : ℕ) (p sent : List ℕ) (qs : List (List ℕ)) (x x' : Seen) → cut sent ≡ qs → reads a y p qs x ≡ x' → InOrder a y p qs x → Read a y p sent x x'
-read_by a y p sent qs x x' e h o = record { line = rw e h; order = rw e o }
-
 -- one packet more in front, which says w
 read_more : (a y : ℕ) (p sent rest q : List ℕ) (w : Word) (x x' : Seen) → cut sent ≡ q ∷ cut rest → word a y q ≡ w → Due w x → Read a y p rest (told p w x) x' → Read a y p sent x x'
-read_more a y p sent rest q w x x' e h d r =
-    read_by a y p sent (q ∷ cut rest) x x' e
-    (ap (λ (v : Word). reads a y p (cut rest) (told p v x)) h ∙ r.line)
-    (subst (λ (v : Word). Due v x × InOrder a y p (cut rest) (told p v x)) (sym h) (d, r.order))
+read_more a y p sent rest q w x x' e h d r = record {
+  line = rw e (ap (λ (v : Word). reads a y p (cut rest) (told p v x)) h ∙ r.line);
+  order = rw e (subst (λ (v : Word). Due v x × InOrder a y p (cut rest) (told p v x)) (sym h) (d, r.order));
+}
 
 module _ (a : ℕ) (low : a ≤ 7) where
   cut_own : (r : Reply) (rest : List ℕ) → cut (own a r ++ rest) ≡ (own_header a ∷ (tail_of r ++ 0xff ∷ [])) ∷ cut rest

@@ -1,15 +1,13 @@
 -- What a tick leaves of the tie between book, end and head, and which settings it may change.
-use Rattle.std.proofs.Common.{◌≡◌, ℕ, zero, suc, ◌≤◌, true, false, eqb, ◌⊎◌, List, [], ◌∷◌, ◌++◌, ℤ, pos, negsuc, Some, None, Option, sym, refl, ◌∙◌, subst, inl, inr, arith}
-use Rattle.end.specs.declared.socket.Socket.{Socket}
-use Rattle.end.specs.declared.socket.Socket.TheVariants.{Closed, Open}
+use Rattle.std.proofs.Common.{◌≡◌, ℕ, zero, suc, ◌+◌, ◌-◌, ◌≤◌, true, false, eqb, ◌⊎◌, List, [], ◌∷◌, ◌++◌, ℤ, pos, negsuc, Some, None, Option, sym, refl, ◌∙◌, subst, inl, inr, arith}
 use Rattle.end.specs.declared.socket.Sockets.{Sockets}
 use Rattle.end.specs.Book.{Seen, closed, working, older}
 use Rattle.end.specs.Deeds.{settled}
 use Rattle.end.specs.Law.{read_as, open_by, names_by, Named, Driven}
 use Rattle.end.specs.Outcomes.{own_header, ended}
 use Rattle.end.specs.States.{State}
-use Rattle.end.proofs.Spoken.{read_none, Read}
-use Rattle.end.proofs.Tied.{Tied, rests, works, tied, After, after_read, after_owns}
+use Rattle.end.proofs.Spoken.{read_none}
+use Rattle.end.proofs.Tied.{Tied, rests, works, After, after_read, after_owns}
 use Rattle.head.specs.declared.order.Order.{Order}
 use Rattle.head.specs.declared.outcome.Ending.{Ending}
 use Rattle.head.specs.declared.outcome.Ending.TheVariants.{Done, Jammed}
@@ -29,18 +27,18 @@ abbrev closes : Option Ending → Seen → Seen
 closes None l = l
 closes (Some e) l = closed
 
-ticked : {l : Seen} {x : Socket} {c : Slot} (e : Option Ending) (c' : Slot) → Tied l x c → SlotTicked c e c' → Tied (closes e (older l)) (settled e x) c'
-ticked None c' rests t = tied Closed c' refl t rests
+ticked : {l : Seen} {x : Option Order} {c : Slot} (e : Option Ending) (c' : Slot) → Tied l x c → SlotTicked c e c' → Tied (closes e (older l)) (settled e x) c'
+ticked None c' rests t = rw t rests
 ticked (Some e) c' rests t = elim t [ ]
-ticked None c' (works {o = o} r low high) t = tied (Open o) c' refl t.1 (works r (omega (arith, t.0)) (omega (arith, t.0)))
-ticked (Some e) c' (works r low high) t = tied Closed c' refl t.1 rests
+ticked None c' (works {n = n} {m = m} r low high) t = rw t.1 (works {n = n + 1} {m = m - 1} r (omega (arith, t.0)) (omega (arith, t.0)))
+ticked (Some e) c' (works r low high) t = rw t.1 rests
 
 -- an ending is told only of an open socket
 abbrev FromOpen : Option Ending → Seen → Type 0
 FromOpen None l = Unit {0}
 FromOpen (Some e) l = open_by l ≡ true
 
-from_open : {l : Seen} {x : Socket} {c : Slot} (e : Option Ending) (c' : Slot) → Tied l x c → SlotTicked c e c' → FromOpen e (older l)
+from_open : {l : Seen} {x : Option Order} {c : Slot} (e : Option Ending) (c' : Slot) → Tied l x c → SlotTicked c e c' → FromOpen e (older l)
 from_open None c' t s = tt
 from_open (Some e) c' rests s = elim s [ ]
 from_open (Some e) c' (works r low high) s = refl
@@ -55,8 +53,7 @@ module _ (a : ℕ) (p sent : List ℕ) (f : Setting → ℤ) (s' : State) (low :
       sent ≡ ended (own_header a) 1 e₁ ++ ended (own_header a) 2 e₂ → FromOpen e₁ l₁ → FromOpen e₂ l₂ →
       Tied (closes e₁ l₁) k'.one c'.one → Tied (closes e₂ l₂) k'.two c'.two → After a p l₁ l₂ sent f s'
   told None None k' c' h c g e o₁ o₂ t₁ t₂ =
-      after_read a p sent f s' k' c' h c g l₁ l₂
-      (subst (λ (bs : List ℕ). Read a 1 p bs l₁ l₁) (sym e) (read_none a 1 p l₁)) (subst (λ (bs : List ℕ). Read a 2 p bs l₂ l₂) (sym e) (read_none a 2 p l₂)) t₁ t₂
+      after_read a p sent f s' k' c' h c g [] l₁ l₂ e (read_none a 1 p l₁) (read_none a 2 p l₂) t₁ t₂
   told None (Some Done) k' c' h c g e o₁ o₂ t₁ t₂ = after_owns a p sent f s' k' c' h c g (Completion 2 ∷ []) l₁ l₂ low (awake (inr o₂)) e (tt, tt) (o₂, tt) t₁ t₂
   told None (Some Jammed) k' c' h c g e o₁ o₂ t₁ t₂ = after_owns a p sent f s' k' c' h c g (Error 2 NotExecutable ∷ []) l₁ l₂ low (awake (inr o₂)) e (tt, tt) (o₂, tt) t₁ t₂
   told (Some Done) None k' c' h c g e o₁ o₂ t₁ t₂ = after_owns a p sent f s' k' c' h c g (Completion 1 ∷ []) l₁ l₂ low (awake (inl o₁)) e (o₁, tt) (tt, tt) t₁ t₂
@@ -70,7 +67,7 @@ module _ (a : ℕ) (p sent : List ℕ) (f : Setting → ℤ) (s' : State) (low :
   told (Some Jammed) (Some Jammed) k' c' h c g e o₁ o₂ t₁ t₂ =
       after_owns a p sent f s' k' c' h c g (Error 1 NotExecutable ∷ Error 2 NotExecutable ∷ []) l₁ l₂ low (awake (inl o₁)) e (o₁, (tt, tt)) (tt, (o₂, tt)) t₁ t₂
 
-pub after_tick : {l₁ l₂ : Seen} {x₁ x₂ : Socket} {c₁ c₂ : Slot} (a : ℕ) (p sent : List ℕ) (s' : State) (e : Endings) → a ≤ 7 →
+pub after_tick : {l₁ l₂ : Seen} {x₁ x₂ : Option Order} {c₁ c₂ : Slot} (a : ℕ) (p sent : List ℕ) (s' : State) (e : Endings) → a ≤ 7 →
     ((open_by l₁ ≡ true) ⊎ (open_by l₂ ≡ true) → eqb a 0 ≡ false) → Tied l₁ x₁ c₁ → Tied l₂ x₂ c₂ →
     SlotTicked c₁ e.one s'.head.slots.one → SlotTicked c₂ e.two s'.head.slots.two →
     s'.sockets ≡ record { one = settled e.one x₁; two = settled e.two x₂ } →
@@ -89,14 +86,14 @@ named_by x o r t None e = inl e
 named_by x o r t (Some v) e = inr (rw (r, e) refl)
 
 -- a slot that names a setting is of an open command that does
-named : {l : Seen} {x : Socket} {c : Slot} (t : Setting) → Tied l x c → (wanted c t ≡ None) ⊎ Named l t
+named : {l : Seen} {x : Option Order} {c : Slot} (t : Setting) → Tied l x c → (wanted c t ≡ None) ⊎ Named l t
 named t rests = inl refl
 named t (works {p = p} {o = o} r low high) = named_by (read_as p) o r t (wants (parts o.targets) t) refl
 
 zero_or_not : (v : ℤ) → (v ≡ pos 0) ⊎ (v ≡ pos 0 → ⊥)
 zero_or_not (pos zero) = inl refl
-zero_or_not (pos (suc n)) = inr (λ e. let z : suc n ≡ 0 = cc in omega arith)
-zero_or_not (negsuc n) = inr (λ e. let z : ◌≡◌ {A = ℕ} 0 1 = cc in omega arith)
+zero_or_not (pos (suc n)) = inr (λ e. cc)
+zero_or_not (negsuc n) = inr (λ e. cc)
 
 module _ (m m' : Meaning) (e : Endings) (d : Ticked m e m') (t : Setting) (by : Unnamed m t) where
   by_axis : (x : Option Axis) → (about t).axis ≡ x → (m'.setting t ≡ m.setting t) ⊎ Driven m t
@@ -108,7 +105,7 @@ module _ (m m' : Meaning) (e : Endings) (d : Ticked m e m') (t : Setting) (by : 
         | inr n ↦ inr (record { axis = x; is = q; moves = n })
       ]
 
-pub changed : {l₁ l₂ : Seen} {x₁ x₂ : Socket} (m m' : Meaning) (e : Endings) (t : Setting) → Ticked m e m' →
+pub changed : {l₁ l₂ : Seen} {x₁ x₂ : Option Order} (m m' : Meaning) (e : Endings) (t : Setting) → Ticked m e m' →
     Tied l₁ x₁ m.slots.one → Tied l₂ x₂ m.slots.two → (m'.setting t ≡ m.setting t) ⊎ (Named l₁ t ⊎ Named l₂ t ⊎ Driven m t)
 changed m m' e t d t₁ t₂ = elim (named t t₁) [
   | inl n₁ ↦ elim (named t t₂) [

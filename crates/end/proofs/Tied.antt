@@ -1,42 +1,33 @@
 -- A socket by the book, by the end and by the head: what is kept from call to call.
-use Rattle.std.proofs.Common.{◌≡◌, ℕ, ◌+◌, ◌≤◌, false, eqb, List, ℤ, Some, sym, refl, ap, subst, arith}
-use Rattle.end.specs.declared.socket.Socket.{Socket}
-use Rattle.end.specs.declared.socket.Socket.TheVariants.{Closed, Open}
+use Rattle.std.proofs.Common.{◌≡◌, ℕ, ◌+◌, ◌≤◌, false, eqb, List, ℤ, Some, None, Option, sym, refl, arith}
 use Rattle.end.specs.declared.socket.Sockets.{Sockets}
 use Rattle.end.specs.Book.{Seen, closed, working, cut, reads}
 use Rattle.end.specs.Law.{read_as, open_by, Holds, InOrder, InTime}
-use Rattle.end.specs.Sockets.{is_open, meets}
+use Rattle.end.specs.Sockets.{is_open}
 use Rattle.end.specs.States.{State}
 use Rattle.end.proofs.Spoken.{Read, owns, spoken, AllDue, read_owns}
 use Rattle.head.specs.declared.order.Order.{Order}
 use Rattle.head.specs.declared.setting.Setting.{Setting}
-use Rattle.head.specs.Meaning.{Slot, Slots, idle, busy, order_in, in_use}
+use Rattle.head.specs.Meaning.{Slot, Slots, idle, busy}
 use Rattle.rules.specs.declared.reply.Reply.{Reply}
 
-pub data Tied : Seen → Socket → Slot → Type 0 where
-  rests : Tied closed Closed idle
-  works : {p : List ℕ} {n m : ℕ} {o : Order} → read_as p ≡ Some o → 1 ≤ m → n + m ≤ 1000 → Tied (working p n) (Open o) (busy o m)
-
-pub tied : {l : Seen} {x : Socket} {c : Slot} (x' : Socket) (c' : Slot) → x' ≡ x → c' ≡ c → Tied l x c → Tied l x' c'
-tied x' c' e h t = rw (e, h) t
+pub data Tied : Seen → Option Order → Slot → Type 0 where
+  rests : Tied closed None idle
+  works : {p : List ℕ} {n m : ℕ} {o : Order} → read_as p ≡ Some o → 1 ≤ m → n + m ≤ 1000 → Tied (working p n) (Some o) (busy o m)
 
 -- What the law says of it.
 
-pub tied_open : {l : Seen} {x : Socket} {c : Slot} → Tied l x c → is_open x ≡ open_by l
+pub tied_open : {l : Seen} {x : Option Order} {c : Slot} → Tied l x c → is_open x ≡ open_by l
 tied_open rests = refl
 tied_open (works r low high) = refl
 
-pub tied_holds : {l : Seen} {x : Socket} {c : Slot} → Tied l x c → Holds l c
+pub tied_holds : {l : Seen} {x : Option Order} {c : Slot} → Tied l x c → Holds l c
 tied_holds rests = record { whether = refl; which = refl }
 tied_holds (works r low high) = record { whether = refl; which = sym r }
 
-pub tied_in_time : {l : Seen} {x : Socket} {c : Slot} → Tied l x c → InTime l
+pub tied_in_time : {l : Seen} {x : Option Order} {c : Slot} → Tied l x c → InTime l
 tied_in_time rests = tt
 tied_in_time (works r low high) = omega arith
-
-pub tied_meets : {l : Seen} {x : Socket} {c : Slot} (o : Order) → Tied l x c → in_use (order_in c) o ≡ meets x o
-tied_meets o rests = refl
-tied_meets o (works r low high) = refl
 
 -- Both sockets after the sent packets of an end with address a were read; p is the last whole packet.
 pub record After (a : ℕ) (p : List ℕ) (l₁ l₂ : Seen) (sent : List ℕ) (f : Setting → ℤ) (s' : State) : Type 0 where
@@ -46,22 +37,18 @@ pub record After (a : ℕ) (p : List ℕ) (l₁ l₂ : Seen) (sent : List ℕ) (
   pub order_two : InOrder a 2 p (cut sent) l₂
   pub settings : (t : Setting) → s'.head.setting t ≡ f t
 
-tied_line : {l l' : Seen} {x : Socket} {c : Slot} → l ≡ l' → Tied l' x c → Tied l x c
-tied_line e t = rw e t
-
 module _ (a : ℕ) (p sent : List ℕ) (f : Setting → ℤ) (s' : State) (k' : Sockets) (c' : Slots) (stand : s'.sockets ≡ k') (slots : s'.head.slots ≡ c') (settings : (t : Setting) → s'.head.setting t ≡ f t) where
-  pub after_read : (l₁ l₂ : Seen) {l₁' l₂' : Seen} → Read a 1 p sent l₁ l₁' → Read a 2 p sent l₂ l₂' → Tied l₁' k'.one c'.one → Tied l₂' k'.two c'.two → After a p l₁ l₂ sent f s'
-  after_read l₁ l₂ r₁ r₂ t₁ t₂ = record {
-    one = tied_line r₁.line (tied _ _ (ap (λ (k : Sockets). k.one) stand) (ap (λ (c : Slots). c.one) slots) t₁);
-    two = tied_line r₂.line (tied _ _ (ap (λ (k : Sockets). k.two) stand) (ap (λ (c : Slots). c.two) slots) t₂);
-    order_one = r₁.order;
-    order_two = r₂.order;
+  -- by what is read in the bytes that they are
+  pub after_read : (bytes : List ℕ) (l₁ l₂ : Seen) {l₁' l₂' : Seen} → sent ≡ bytes → Read a 1 p bytes l₁ l₁' → Read a 2 p bytes l₂ l₂' → Tied l₁' k'.one c'.one → Tied l₂' k'.two c'.two →
+      After a p l₁ l₂ sent f s'
+  after_read bytes l₁ l₂ e r₁ r₂ t₁ t₂ = record {
+    one = rw (e, r₁.line, stand, slots) t₁;
+    two = rw (e, r₂.line, stand, slots) t₂;
+    order_one = rw e r₁.order;
+    order_two = rw e r₂.order;
     settings = settings;
   }
 
   pub after_owns : (rs : List Reply) (l₁ l₂ : Seen) → a ≤ 7 → eqb a 0 ≡ false → sent ≡ owns a rs → AllDue p 1 rs l₁ → AllDue p 2 rs l₂ →
       Tied (spoken p 1 rs l₁) k'.one c'.one → Tied (spoken p 2 rs l₂) k'.two c'.two → After a p l₁ l₂ sent f s'
-  after_owns rs l₁ l₂ low has e d₁ d₂ t₁ t₂ =
-      after_read l₁ l₂
-      (subst (λ (bs : List ℕ). Read a 1 p bs l₁ (spoken p 1 rs l₁)) (sym e) (read_owns a low has 1 p rs l₁ d₁))
-      (subst (λ (bs : List ℕ). Read a 2 p bs l₂ (spoken p 2 rs l₂)) (sym e) (read_owns a low has 2 p rs l₂ d₂)) t₁ t₂
+  after_owns rs l₁ l₂ low has e d₁ d₂ t₁ t₂ = after_read (owns a rs) l₁ l₂ e (read_owns a low has 1 p rs l₁ d₁) (read_owns a low has 2 p rs l₂ d₂) t₁ t₂

@@ -1,7 +1,5 @@
 -- What a call does to the sockets and the head.
 use Rattle.std.specs.Prelude.{◌≡◌, ℕ, ◌-◌, Some, None, Option}
-use Rattle.end.specs.declared.socket.Socket.{Socket}
-use Rattle.end.specs.declared.socket.Socket.TheVariants.{Closed, Open}
 use Rattle.end.specs.declared.socket.Sockets.{Sockets}
 use Rattle.end.specs.Sockets.{both_closed, with_socket}
 use Rattle.head.specs.declared.order.Order.{Order}
@@ -60,15 +58,15 @@ DidHead (displaces y o) m m' = Displaced m y o m'
 DidHead (ticks e) m m' = Ticked m e m'
 
 -- a socket whose order ended is closed
-abbrev pub settled : Option Ending → Socket → Socket
+abbrev pub settled : Option Ending → Option Order → Option Order
 settled None x = x
-settled (Some e) x = Closed
+settled (Some e) x = None
 
 -- the sockets after a deed
 abbrev pub sockets_after : Deed → Sockets → Sockets
 sockets_after nothing k = k
 sockets_after clears k = both_closed
-sockets_after (cancels y) k = with_socket k y Closed
-sockets_after (starts y o) k = with_socket k y (Open o)
-sockets_after (displaces y o) k = with_socket (with_socket k (other y) Closed) y (Open o)
+sockets_after (cancels y) k = with_socket k y None
+sockets_after (starts y o) k = with_socket k y (Some o)
+sockets_after (displaces y o) k = with_socket (with_socket k (other y) None) y (Some o)
 sockets_after (ticks e) k = record { one = settled e.one k.one; two = settled e.two k.two }

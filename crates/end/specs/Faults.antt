@@ -18,6 +18,10 @@ code_of (Packet f) = packets.code_of f
 abbrev pub without_reply : FramingFault → Fault
 without_reply f = record { cause = Framing f; sent = 0 }
 
+-- what a call with a short buffer answers
+abbrev pub refused : Fault
+refused = record { cause = ShortBuffer; sent = 0 }
+
 pub data Answer : Type 0 where
   counts : ℕ → Answer
   faults : FaultCode → ℕ → Answer

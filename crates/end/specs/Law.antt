@@ -153,6 +153,12 @@ abbrev pub Shared : ℕ → List Entry → Type 0
 Shared n [] = Unit {0}
 Shared n (e ∷ h) = (e.room ≡ room_for e.call (n - length (sent_by h))) × Shared n h
 
+-- a call that finds so much room leads from s to s', in range, and sends these bytes
+pub record Served (c : Call) (room : ℕ) (s : State) (sent : List ℕ) (s' : State) : Type 0 where
+  pub answer : Answer
+  pub step : Step s c (room_for c room) answer sent s'
+  pub ranged : InRange s'
+
 -- these calls were made in turn on an end just made of a head that means m, the bytes are what was sent, s is the state they
 -- came to, and the law held after each of them
 pub record Played (m : Meaning) (calls : List Call) (n : ℕ) (bytes : List ℕ) (s : State) : Type 0 where

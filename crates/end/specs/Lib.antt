@@ -2,7 +2,6 @@ pub mod Sockets
 pub mod Faults
 pub mod States
 pub mod Deeds
-pub mod Sending
 pub mod Outcomes
 pub mod Steps
 pub mod Book

@@ -1,5 +1,5 @@
 -- An end and its head, as the rules speak of them.
-use Rattle.std.specs.Prelude.{◌≡◌, ℕ, Bool, true, ℤ}
+use Rattle.std.specs.Prelude.{◌≡◌, ℕ, true}
 use Rattle.end.specs.declared.end.End.{End}
 use Rattle.end.specs.declared.socket.Sockets.{Sockets}
 use Rattle.head.specs.declared.setting.Setting.{Setting}
@@ -22,5 +22,9 @@ pub record State : Type 0 where
 pub record InRange (s : State) : Type 0 where
   pub each : (t : Setting) → in_range t (s.head.setting t) ≡ true
 
-abbrev pub view : {H : Type 0} {h : HeadGhosts H} {l : LookGhosts H} → (H → Setting → ℤ) → (H → Bool) → (H → head.Slots) → End H h l → State
-view f p g e = record { head = head.view f p g e.head; address = e.address; held = e.framer; sockets = e.sockets }
+-- a head by the ghost members of its traits
+abbrev pub meaning : {H : Type 0} → LookGhosts H → (H → head.Slots) → H → head.Meaning
+meaning l slots x = head.view l.setting l.pantilt slots x
+
+abbrev pub state : {H : Type 0} {h : HeadGhosts H} {l : LookGhosts H} → End H h l → State
+state {h = h} {l = l} e = record { head = meaning l h.slots e.head; address = e.address; held = e.framer; sockets = e.sockets }

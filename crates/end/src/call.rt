@@ -1,7 +1,7 @@
 //! A call on an end, to be told or listed.
 
 /// A call.
-#[derive(Clone, Copy)]
+#[derive(Clone, Copy, PartialEq, Eq, Debug)]
 pub enum Call {
     /// A byte from the line.
     Byte(u8),

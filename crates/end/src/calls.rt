@@ -1,32 +1,42 @@
 //! The calls on an end: make, byte, tick, open, take off.
 
-ghost use Rattle.std.specs.Prelude.{◌≡◌, ◌+◌, ◌≤◌, [], length, take, drop};
+ghost use Rattle.std.specs.Prelude.{◌≡◌, ◌+◌, ◌<◌, ◌≤◌, [], length, take, drop, OnOk, IfErr};
 ghost use Rattle.end.specs.Deeds.{Cleared, settled as settled_by};
-ghost use Rattle.end.specs.Faults.{answered, count, opens};
+ghost use Rattle.end.specs.Faults.{answered, count, opens, refused};
 ghost use Rattle.end.specs.Law.{Keeps};
-ghost use Rattle.end.specs.Outcomes.{ended};
-ghost use Rattle.end.specs.Sending.{Put};
-ghost use Rattle.end.specs.States.{view};
-ghost use Rattle.end.specs.Steps.{Made, Step};
-ghost use Rattle.head.specs.Meaning.{view as head_view};
+ghost use Rattle.end.specs.Outcomes.{ended as ended_by, met as met_by};
+ghost use Rattle.end.specs.Sockets.{number};
+ghost use Rattle.end.specs.States.{meaning, state};
+ghost use Rattle.end.specs.Steps.{Came, Made, Step};
+ghost use Rattle.rules.specs.Ring.{rule_of};
+ghost use Rattle.wire.specs.Framing.{bytes_of};
 
 use crate::call::Call;
 use crate::end::End;
 use crate::fault::{Cause, Fault};
-use crate::sending::{ROOM, put_reply};
-use crate::socket::{OpenSockets, Socket, Sockets};
-use head::{Ending, Head, Look};
+use crate::sending::{ROOM, Sent};
+use crate::socket::{OpenSockets, Sockets, Which};
+use head::{Ending, Head, Look, Order};
 use rules::{Problem, Reply};
-use wire::Framer;
+use wire::{Framer, Packet};
 
-const SHORT_BUFFER: Fault = Fault {
-    cause: Cause::ShortBuffer,
-    sent: 0,
-};
+// Whether the buffer has room for all that a call sends.
+fn room(out: &[u8]) -> Result<(), Fault>
+    ensures enough { OnOk result (16 ≤ length out.now) }
+    ensures short { IfErr result (λ f. (length out.now < 16) × (f ≡ refused)) }
+{
+    if out.len() < ROOM {
+        return Err(Fault {
+            cause: Cause::ShortBuffer,
+            sent: 0,
+        });
+    }
+    Ok(())
+}
 
 // A head with both slots dropped.
 fn idled<H: Head>(mut head: H) -> H
-    ensures { Cleared (head_view H.Look.setting H.Look.pantilt H.Head.slots head) (head_view H.Look.setting H.Look.pantilt H.Head.slots result) }
+    ensures { Cleared (meaning H.Look H.slots head) (meaning H.Look H.slots result) }
 {
     head.drop_slot(1);
     head.drop_slot(2);
@@ -34,30 +44,23 @@ fn idled<H: Head>(mut head: H) -> H
 }
 
 // A socket after a tick that told this of its order.
-fn settled(ending: Option<Ending>, socket: Socket) -> Socket
+fn settled(ending: Option<Ending>, socket: Option<Order>) -> Option<Order>
     ensures { result ≡ settled_by ending socket }
 {
-    match ending {
-        Some(_) => Socket::Closed,
-        None => socket,
-    }
+    if ending.is_some() { None } else { socket }
 }
 
-// Puts what a socket tells of its ending, if it ended, into the buffer from a place on.
-fn put_ending(out: &mut [u8], at: usize, header: u8, socket: u8, ending: Option<Ending>) -> usize
-    requires { at + length (ended header socket ending) ≤ length out.old }
-    ensures { Put out.old at (ended header socket ending) result out.new }
+// What a socket tells of its ending, if it ended.
+fn ended(header: u8, which: Which, ending: Option<Ending>) -> Sent
+    ensures told { result ≡ ended_by header (number which) ending }
+    ensures few { length result ≤ 4 }
 {
+    let number = which.number();
     match ending {
-        None => at,
-        Some(Ending::Done) => put_reply(out, at, header, Reply::Completion(socket)),
+        None => Sent::nothing(),
+        Some(Ending::Done) => Sent::reply(header, Reply::Completion(number)),
         Some(Ending::Jammed) => {
-            put_reply(
-                out,
-                at,
-                header,
-                Reply::Error(socket, Problem::NotExecutable),
-            )
+            Sent::reply(header, Reply::Error(number, Problem::NotExecutable))
         }
     }
 }
@@ -65,41 +68,53 @@ fn put_ending(out: &mut [u8], at: usize, header: u8, socket: u8, ending: Option<
 impl<H: Head> End<H> {
     /// An end over a head, whose slots are dropped: no address, no packet begun, both sockets closed.
     pub fn make(head: H) -> End<H>
-        ensures { Made (head_view H.Look.setting H.Look.pantilt H.Head.slots head) (view H.Look.setting H.Look.pantilt H.Head.slots result) }
+        ensures { Made (meaning H.Look H.slots head) (state result) }
     {
         End {
             head: idled(head),
             address: 0,
             framer: Framer::new(),
             sockets: Sockets {
-                one: Socket::Closed,
-                two: Socket::Closed,
+                one: None,
+                two: None,
             },
         }
     }
 
-    // A byte with room for what it sends.
-    fn take_byte(&mut self, byte: u8, out: &mut [u8]) -> Result<usize, Fault>
-        ensures step { Step (view H.Look.setting H.Look.pantilt H.Head.slots self.old) (Call.Byte byte) (length out.old) (answered result) (take (count result) out.new) (view H.Look.setting H.Look.pantilt H.Head.slots self.new) }
+    // A whole packet, and what it sends put into the caller's buffer.
+    fn take_packet(&mut self, packet: &Packet, out: &mut [u8]) -> Result<usize, Fault>
+        requires { 16 ≤ length out.old }
+        ensures came { Came (state self.old) (state self.old).held (met_by self.old.address (state self.old).head self.old.sockets (bytes_of packet.now) (rule_of self.old.address (bytes_of packet.now))) (answered result) (take (count result) out.new) (state self.new) }
         ensures untouched { drop (count result) out.new ≡ drop (count result) out.old }
     {
-        if out.len() < ROOM {
-            return Err(SHORT_BUFFER);
+        let header = self.own_header();
+        match self.meet(packet) {
+            Ok(sent) => Ok(sent.put(out)),
+            Err(fault) => Err(Fault {
+                cause: Cause::Packet(fault),
+                sent: Sent::reply(header, Reply::Error(0, Problem::Syntax)).put(out),
+            }),
         }
+    }
+
+    // A byte, given a buffer.
+    fn take_byte(&mut self, byte: u8, out: &mut [u8]) -> Result<usize, Fault>
+        ensures step { Step (state self.old) (Call.Byte byte) (length out.old) (answered result) (take (count result) out.new) (state self.new) }
+        ensures untouched { drop (count result) out.new ≡ drop (count result) out.old }
+    {
+        room(out)?;
         let whole = self.framer.feed(byte)?;
         match whole {
-            Some(packet) => self.meet(&packet, out),
+            Some(packet) => self.take_packet(&packet, out),
             None => Ok(0),
         }
     }
 
     fn take_tick(&mut self, out: &mut [u8]) -> Result<usize, Fault>
-        ensures step { Step (view H.Look.setting H.Look.pantilt H.Head.slots self.old) Call.Tick (length out.old) (answered result) (take (count result) out.new) (view H.Look.setting H.Look.pantilt H.Head.slots self.new) }
+        ensures step { Step (state self.old) Call.Tick (length out.old) (answered result) (take (count result) out.new) (state self.new) }
         ensures untouched { drop (count result) out.new ≡ drop (count result) out.old }
     {
-        if out.len() < ROOM {
-            return Err(SHORT_BUFFER);
-        }
+        room(out)?;
         let endings = self.head.tick();
         let sockets = self.sockets;
         self.sockets = Sockets {
@@ -107,40 +122,38 @@ impl<H: Head> End<H> {
             two: settled(endings.two, sockets.two),
         };
         let header = self.own_header();
-        let first = put_ending(out, 0, header, 1, endings.one);
-        Ok(put_ending(out, first, header, 2, endings.two))
+        let one = ended(header, Which::One, endings.one);
+        let two = ended(header, Which::Two, endings.two);
+        Ok(one.and(two).put(out))
     }
 
     /// Takes one byte from the line. What it sends stands at the front of the buffer; the answer is
     /// the count, or a fault with the count sent.
     pub fn byte(&mut self, byte: u8, out: &mut [u8]) -> Result<usize, Fault>
-        ensures step { Step (view H.Look.setting H.Look.pantilt H.Head.slots self.old) (Call.Byte byte) (length out.old) (answered result) (take (count result) out.new) (view H.Look.setting H.Look.pantilt H.Head.slots self.new) }
+        ensures step { Step (state self.old) (Call.Byte byte) (length out.old) (answered result) (take (count result) out.new) (state self.new) }
         ensures untouched { drop (count result) out.new ≡ drop (count result) out.old }
         ensures within { count result ≤ length out.new }
-        ensures law { Keeps (view H.Look.setting H.Look.pantilt H.Head.slots self.old) (Call.Byte byte) (length out.old) (answered result) (take (count result) out.new) (view H.Look.setting H.Look.pantilt H.Head.slots self.new) }
+        ensures law { Keeps (state self.old) (Call.Byte byte) (length out.old) (answered result) (take (count result) out.new) (state self.new) }
     {
         self.take_byte(byte, out)
     }
 
     /// Ticks the head once. Socket 1 and then 2 sends its ending, if its order ended, and closes.
     pub fn tick(&mut self, out: &mut [u8]) -> Result<usize, Fault>
-        ensures step { Step (view H.Look.setting H.Look.pantilt H.Head.slots self.old) Call.Tick (length out.old) (answered result) (take (count result) out.new) (view H.Look.setting H.Look.pantilt H.Head.slots self.new) }
+        ensures step { Step (state self.old) Call.Tick (length out.old) (answered result) (take (count result) out.new) (state self.new) }
         ensures untouched { drop (count result) out.new ≡ drop (count result) out.old }
         ensures within { count result ≤ length out.new }
-        ensures law { Keeps (view H.Look.setting H.Look.pantilt H.Head.slots self.old) Call.Tick (length out.old) (answered result) (take (count result) out.new) (view H.Look.setting H.Look.pantilt H.Head.slots self.new) }
+        ensures law { Keeps (state self.old) Call.Tick (length out.old) (answered result) (take (count result) out.new) (state self.new) }
     {
         self.take_tick(out)
     }
 
     /// Which sockets are open.
     pub fn open(&self) -> OpenSockets
-        ensures step { Step (view H.Look.setting H.Look.pantilt H.Head.slots self.now) Call.Open 0 (opens result.one result.two) [] (view H.Look.setting H.Look.pantilt H.Head.slots self.now) }
-        ensures law { Keeps (view H.Look.setting H.Look.pantilt H.Head.slots self.now) Call.Open 0 (opens result.one result.two) [] (view H.Look.setting H.Look.pantilt H.Head.slots self.now) }
+        ensures step { Step (state self.now) Call.Open 0 (opens result.one result.two) [] (state self.now) }
+        ensures law { Keeps (state self.now) Call.Open 0 (opens result.one result.two) [] (state self.now) }
     {
-        OpenSockets {
-            one: self.sockets.one.is_open(),
-            two: self.sockets.two.is_open(),
-        }
+        self.sockets.open()
     }
 
     /// The head, to be looked at.
@@ -152,14 +165,9 @@ impl<H: Head> End<H> {
 
     /// Ends the end, drops both slots and hands the head back.
     pub fn take_off(self) -> H
-        ensures { Cleared (view H.Look.setting H.Look.pantilt H.Head.slots self).head (head_view H.Look.setting H.Look.pantilt H.Head.slots result) }
+        ensures { Cleared (state self).head (meaning H.Look H.slots result) }
     {
-        let End {
-            head,
-            address: _,
-            framer: _,
-            sockets: _,
-        } = self;
+        let End { head, .. } = self;
         idled(head)
     }
 }

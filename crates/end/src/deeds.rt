@@ -1,51 +1,50 @@
 //! What calls do to the head and the sockets, always together.
 
-ghost use Rattle.std.specs.Prelude.{◌≡◌, ◌≤◌};
-ghost use Rattle.end.specs.Deeds.{clears, cancels, starts, displaces, other as other_of};
-ghost use Rattle.end.specs.States.{view};
+ghost use Rattle.end.specs.Deeds.{clears, cancels, starts, displaces};
+ghost use Rattle.end.specs.Sockets.{number};
+ghost use Rattle.end.specs.States.{state};
 ghost use Rattle.end.specs.Steps.{Worked};
 
 use crate::end::End;
-use crate::socket::{Socket, Sockets};
+use crate::socket::{Sockets, Which};
 use head::{Head, Look, Order};
 
 impl<H: Head> End<H> {
     /// Drops both slots and closes both sockets.
     pub(crate) fn clear(&mut self)
-        ensures { Worked clears (view H.Look.setting H.Look.pantilt H.Head.slots self.old) (view H.Look.setting H.Look.pantilt H.Head.slots self.new) }
+        ensures { Worked clears (state self.old) (state self.new) }
     {
         self.head.drop_slot(1);
         self.head.drop_slot(2);
         self.sockets = Sockets {
-            one: Socket::Closed,
-            two: Socket::Closed,
+            one: None,
+            two: None,
         };
     }
 
     /// Drops a slot and closes its socket.
-    pub(crate) fn drop_command(&mut self, socket: u8)
-        ensures { Worked (cancels socket) (view H.Look.setting H.Look.pantilt H.Head.slots self.old) (view H.Look.setting H.Look.pantilt H.Head.slots self.new) }
+    pub(crate) fn drop_command(&mut self, which: Which)
+        ensures { Worked (cancels (number which)) (state self.old) (state self.new) }
     {
-        self.head.drop_slot(socket);
-        self.sockets = self.sockets.with(socket, Socket::Closed);
+        self.head.drop_slot(which.number());
+        self.sockets = self.sockets.with(which, None);
     }
 
     /// Gives a slot an order and opens its socket.
-    pub(crate) fn start_command(&mut self, socket: u8, order: Order)
-        ensures { Worked (starts socket order) (view H.Look.setting H.Look.pantilt H.Head.slots self.old) (view H.Look.setting H.Look.pantilt H.Head.slots self.new) }
+    pub(crate) fn start_command(&mut self, which: Which, order: Order)
+        ensures { Worked (starts (number which) order) (state self.old) (state self.new) }
     {
         // The head never turns it down: rows admit only targets in range, the slot of a closed socket
         // is idle, and an order that shares a setting was dropped before.
-        let _ = self.head.start(socket, order);
-        self.sockets = self.sockets.with(socket, Socket::Open(order));
+        let _ = self.head.start(which.number(), order);
+        self.sockets = self.sockets.with(which, Some(order));
     }
 
     /// Drops the other slot's order, then gives a slot its order.
-    pub(crate) fn displace_command(&mut self, socket: u8, order: Order)
-        requires { socket ≤ 3 }
-        ensures { Worked (displaces socket order) (view H.Look.setting H.Look.pantilt H.Head.slots self.old) (view H.Look.setting H.Look.pantilt H.Head.slots self.new) }
+    pub(crate) fn displace_command(&mut self, which: Which, order: Order)
+        ensures { Worked (displaces (number which) order) (state self.old) (state self.new) }
     {
-        self.drop_command(3 - socket);
-        self.start_command(socket, order);
+        self.drop_command(which.other());
+        self.start_command(which, order);
     }
 }

@@ -56,8 +56,5 @@ impl From<Fault> for FaultCode {
 pub fn bytes_sent(answer: Result<usize, Fault>) -> usize
     ensures { result ≡ count answer }
 {
-    match answer {
-        Ok(count) => count,
-        Err(fault) => fault.sent,
-    }
+    answer.unwrap_or_else(|fault| fault.sent)
 }

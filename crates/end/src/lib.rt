@@ -20,4 +20,4 @@ pub use end::End;
 pub use fault::{Cause, Fault, bytes_sent};
 pub use script::play;
 pub use sending::ROOM;
-pub use socket::{OpenSockets, Socket, Sockets};
+pub use socket::{OpenSockets, Sockets};

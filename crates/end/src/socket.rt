@@ -1,99 +1,110 @@
 //! The two sockets, in which commands are at work.
 
 ghost use Rattle.std.specs.Prelude.{◌≡◌};
-ghost use Rattle.end.specs.Sockets.{is_open, socket_at, with_socket, full as full_of, free as free_of, powering as powering_by, powering_in, meets as meets_order};
+ghost use Rattle.end.specs.Deeds.{other as other_of};
+ghost use Rattle.end.specs.Sockets.{is_open, number as number_of, numbered, socket_at, with_socket, full as full_of, free as free_of, powering_in, meets as meets_order};
 
 use head::Order;
 use rules::powers_on;
 
-/// A socket.
+/// Sockets 1 and 2. Each is closed, `None`, or open with the order that its command was read as.
 ///
 /// ```text
 ///            acknowledgement 4Y
-///  ┌────────┐ ───────────────▶ ┌──────┐
-///  │ Closed │                  │ Open │
-///  └────────┘ ◀─────────────── └──────┘
+///  ┌────────┐ ───────────────▶ ┌─────────────┐
+///  │  None  │                  │ Some(order) │
+///  └────────┘ ◀─────────────── └─────────────┘
 ///      completion 5Y, 6Y 04 (cancelled or displaced),
 ///      6Y 41 (jammed), or a clearing
 /// ```
 #[derive(Clone, Copy)]
-pub enum Socket {
-    Closed,
-    /// Open, with the order that its command was read as.
-    Open(Order),
-}
-
-/// Sockets 1 and 2.
-#[derive(Clone, Copy)]
 pub struct Sockets {
-    pub one: Socket,
-    pub two: Socket,
+    pub one: Option<Order>,
+    pub two: Option<Order>,
 }
 
 /// Which sockets are open.
-#[derive(Clone, Copy)]
+#[derive(Clone, Copy, PartialEq, Eq, Debug)]
 pub struct OpenSockets {
     pub one: bool,
     pub two: bool,
 }
 
-impl Socket {
-    pub(crate) fn is_open(self) -> bool
-        ensures { result ≡ is_open self }
+/// One of the two.
+#[derive(Clone, Copy)]
+pub(crate) enum Which {
+    One,
+    Two,
+}
+
+impl Which {
+    /// The socket with this number on the line, if there is one.
+    pub(crate) fn numbered(number: u8) -> Option<Which>
+        ensures { result ≡ numbered number }
     {
-        match self {
-            Socket::Closed => false,
-            Socket::Open(_) => true,
+        match number {
+            1 => Some(Which::One),
+            2 => Some(Which::Two),
+            _ => None,
         }
     }
 
-    // Whether the socket's order names a setting of this one.
-    pub(crate) fn meets(self, order: &Order) -> bool
-        ensures { result ≡ meets_order self order.now }
+    /// Its number, on the line and at the head.
+    pub(crate) fn number(self) -> u8
+        ensures { result ≡ number_of self }
     {
         match self {
-            Socket::Closed => false,
-            Socket::Open(held) => order.meets(&held),
+            Which::One => 1,
+            Which::Two => 2,
         }
     }
 
-    // Whether the socket's order switches power on.
-    fn powers_on(self) -> bool
-        ensures { result ≡ powering_by self }
+    pub(crate) fn other(self) -> Which
+        ensures { number_of result ≡ other_of (number_of self) }
     {
         match self {
-            Socket::Closed => false,
-            Socket::Open(held) => powers_on(&held),
+            Which::One => Which::Two,
+            Which::Two => Which::One,
         }
     }
 }
 
 impl Sockets {
-    /// The socket with this number; a number other than 1 and 2 is as good as closed.
-    pub(crate) fn get(self, number: u8) -> Socket
-        ensures { result ≡ socket_at self number }
+    pub(crate) fn get(self, which: Which) -> Option<Order>
+        ensures { result ≡ socket_at self (number_of which) }
     {
-        match number {
-            1 => self.one,
-            2 => self.two,
-            _ => Socket::Closed,
+        match which {
+            Which::One => self.one,
+            Which::Two => self.two,
         }
     }
 
-    /// With another socket at this number.
-    pub(crate) fn with(self, number: u8, socket: Socket) -> Sockets
-        ensures { result ≡ with_socket self number socket }
+    /// With another content of this socket.
+    pub(crate) fn with(self, which: Which, socket: Option<Order>) -> Sockets
+        ensures { result ≡ with_socket self (number_of which) socket }
     {
-        match number {
-            1 => Sockets {
-                one: socket,
-                two: self.two,
-            },
-            2 => Sockets {
-                one: self.one,
-                two: socket,
-            },
-            _ => self,
+        let Sockets { one, two } = self;
+        match which {
+            Which::One => Sockets { one: socket, two },
+            Which::Two => Sockets { one, two: socket },
+        }
+    }
+
+    /// Whether the order in a socket names a setting of this one.
+    pub(crate) fn meet(self, which: Which, order: &Order) -> bool
+        ensures { result ≡ meets_order (socket_at self (number_of which)) order.now }
+    {
+        self.get(which).is_some_and(|held| order.meets(&held))
+    }
+
+    /// Which are open.
+    pub(crate) fn open(self) -> OpenSockets
+        ensures one { result.one ≡ is_open self.one }
+        ensures two { result.two ≡ is_open self.two }
+    {
+        OpenSockets {
+            one: self.one.is_some(),
+            two: self.two.is_some(),
         }
     }
 
@@ -101,20 +112,25 @@ impl Sockets {
     pub(crate) fn full(self) -> bool
         ensures { result ≡ full_of self }
     {
-        self.one.is_open() && self.two.is_open()
+        self.one.is_some() && self.two.is_some()
     }
 
     /// Whether the order of one of them switches power on.
     pub(crate) fn powering_on(self) -> bool
         ensures { result ≡ powering_in self }
     {
-        self.one.powers_on() || self.two.powers_on()
+        self.one.is_some_and(|held| powers_on(&held))
+            || self.two.is_some_and(|held| powers_on(&held))
     }
 
     /// The socket that a command gets: 1 if it is closed, else 2.
-    pub(crate) fn free(self) -> u8
-        ensures { result ≡ free_of self }
+    pub(crate) fn free(self) -> Which
+        ensures { number_of result ≡ free_of self }
     {
-        if self.one.is_open() { 2 } else { 1 }
+        if self.one.is_some() {
+            Which::Two
+        } else {
+            Which::One
+        }
     }
 }

@@ -1,6 +1,6 @@
 use Rattle.std.proofs.Common.{◌≡◌, ◌≤◌, length, take, drop}
 use Rattle.end.specs.Law.{Played}
-use Rattle.end.specs.States.{view}
+use Rattle.end.specs.States.{state}
 use Rattle.end.specs.Steps.{Made}
 use Rattle.head.specs.Meaning.{Meaning}
 use Rattle.end.proofs.script.play.Given as goal
@@ -10,6 +10,6 @@ abbrev pub invariant-loop-call : goal.invariant-loop-call
 invariant-loop-call g l =
     (l.call-index ≤ length l.calls)
     × (l.count ≤ length l.log)
-    × ((m : Meaning) → Made m (view g.H.Look.setting g.H.Look.pantilt g.H.Head.slots l.initial.end) →
-    Played m (take l.call-index l.calls) (length l.initial.log) (take l.count l.log) (view g.H.Look.setting g.H.Look.pantilt g.H.Head.slots l.end))
+    × ((m : Meaning) → Made m (state l.initial.end) →
+    Played m (take l.call-index l.calls) (length l.initial.log) (take l.count l.log) (state l.end))
     × (drop l.count l.log ≡ drop l.count l.initial.log)

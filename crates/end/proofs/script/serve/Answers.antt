@@ -1,40 +1,10 @@
-use Rattle.std.proofs.Common.{[], length, take, refl, rules}
-use Rattle.end.specs.declared.call.Call.TheVariants.{Byte, Tick, Open}
-use Rattle.end.specs.Faults.{answered, count, opens}
-use Rattle.end.specs.States.{view}
-use Rattle.end.proofs.Runs.{played_more}
 use Rattle.end.proofs.script.serve.Goals as goal
 
-pub returns-in-Byte : goal.returns-in-Byte
-returns-in-Byte g c =
-    let d = c.byte.ensures in
-    let was = view g.H.Look.setting g.H.Look.pantilt g.H.Head.slots c.args.end.now in
-    let then = view g.H.Look.setting g.H.Look.pantilt g.H.Head.slots c.byte.new.self in
-    record {
-      within = rw c.bytes_sent.ensures d.within;
-      untouched = rw c.bytes_sent.ensures d.untouched;
-      played = λ m cs n bs e v. simp (c.in-Byte.is, c.bytes_sent.ensures) (played_more m cs n bs
-          was (Byte c.in-Byte.byte) (length c.args.out.now) (answered c.byte.result) (take (count c.byte.result) c.byte.new.out) then e (record { each = g.met.H.Look.ranged c.byte.new.self.head }) d.step v);
-    }
+pub returns-in-Byte-clause-served : goal.returns-in-Byte-clause-served
+returns-in-Byte-clause-served g c = rw (c.in-Byte.is, c.bytes_sent.ensures) (record { answer = _; step = c.byte.ensures.step; ranged = record { each = g.met.H.Look.ranged c.byte.new.self.head } })
 
-pub returns-in-Tick : goal.returns-in-Tick
-returns-in-Tick g c =
-    let d = c.tick.ensures in
-    let was = view g.H.Look.setting g.H.Look.pantilt g.H.Head.slots c.args.end.now in
-    let then = view g.H.Look.setting g.H.Look.pantilt g.H.Head.slots c.tick.new.self in
-    record {
-      within = rw c.bytes_sent-in-Tick.ensures d.within;
-      untouched = rw c.bytes_sent-in-Tick.ensures d.untouched;
-      played = λ m cs n bs e v. simp (c.in-Tick.is, c.bytes_sent-in-Tick.ensures) (played_more m cs n bs
-          was Tick (length c.args.out.now) (answered c.tick.result) (take (count c.tick.result) c.tick.new.out) then e (record { each = g.met.H.Look.ranged c.tick.new.self.head }) d.step v);
-    }
+pub returns-in-Tick-clause-served : goal.returns-in-Tick-clause-served
+returns-in-Tick-clause-served g c = rw (c.in-Tick.is, c.bytes_sent-in-Tick.ensures) (record { answer = _; step = c.tick.ensures.step; ranged = record { each = g.met.H.Look.ranged c.tick.new.self.head } })
 
-pub returns-in-Open : goal.returns-in-Open
-returns-in-Open g c =
-    let d = c.open.ensures in
-    let was = view g.H.Look.setting g.H.Look.pantilt g.H.Head.slots c.args.end.now in
-    record {
-      within = search rules;
-      untouched = search rules;
-      played = λ m cs n bs e v. simp c.in-Open.is (played_more m cs n bs was Open 0 (opens c.open.result.one c.open.result.two) [] was refl (record { each = g.met.H.Look.ranged c.args.end.now.head }) d.step v);
-    }
+pub returns-in-Open-clause-served : goal.returns-in-Open-clause-served
+returns-in-Open-clause-served g c = rw c.in-Open.is (record { answer = _; step = c.open.ensures.step; ranged = record { each = g.met.H.Look.ranged c.args.end.now.head } })

@@ -1,6 +1,0 @@
-use Rattle.rules.specs.Replies.{packet}
-use Rattle.end.proofs.Sent.{put_some}
-use Rattle.end.proofs.sending.put_reply.Goals as goal
-
-pub returns-in-Some : goal.returns-in-Some
-returns-in-Some c = put_some c.args.at (packet c.args.header c.args.reply) c.args.out.now c.requires c.in-Some.next c.send_at.new.out c.in-Some.ensures.next c.send_at.ensures.sent
