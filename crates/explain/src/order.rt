@@ -1,8 +1,9 @@
 //! Orders in words.
 
+use crate::words::InWords;
 use head::table::ALL;
-use head::{Axis, Order, Setting};
-use std::io;
+use head::{Order, Paces, Setting, Target};
+use std::fmt;
 
 // What a value of a setting with a list is called.
 fn value_name(setting: Setting, value: i32) -> &'static str {
@@ -26,51 +27,53 @@ fn value_name(setting: Setting, value: i32) -> &'static str {
 
 // Whether the order moves the position whose drive this is: its drive to 0 then goes without saying.
 fn goes_without_saying(order: &Order, setting: Setting) -> bool {
-    let axis = match setting {
-        Setting::ZoomDrive => Axis::Zoom,
-        Setting::FocusDrive => Axis::Focus,
-        Setting::PanDrive => Axis::Pan,
-        Setting::TiltDrive => Axis::Tilt,
+    let position = match setting {
+        Setting::ZoomDrive => Setting::Zoom,
+        Setting::FocusDrive => Setting::Focus,
+        Setting::PanDrive => Setting::Pan,
+        Setting::TiltDrive => Setting::Tilt,
         _ => return false,
     };
-    order.target(axis.position()).is_some()
+    order.target(position).is_some()
 }
 
-fn show_target(rt: &impl Print, first: bool, setting: Setting, value: i32) -> io::Result<()> {
-    let comma = if first { "" } else { ", " };
-    let name = value_name(setting, value);
-    print!(rt; "{comma}{setting} to {value}{name}")
+impl fmt::Display for InWords<Target> {
+    fn fmt<W: fmt::Write>(&self, f: &mut fmt::Formatter<W>) -> fmt::Result {
+        let Target { setting, value } = self.0;
+        let name = value_name(setting, value);
+        write!(f, "{setting} to {value}{name}")
+    }
 }
 
-fn show_targets(rt: &impl Print, order: &Order) -> io::Result<()> {
-    let mut first = true;
-    for setting in ALL {
-        if let Some(value) = order.target(setting) {
-            if !goes_without_saying(order, setting) {
-                show_target(rt, first, setting, value)?;
-                first = false;
-            }
+impl fmt::Display for InWords<Paces> {
+    fn fmt<W: fmt::Write>(&self, f: &mut fmt::Formatter<W>) -> fmt::Result {
+        let Paces { lens, pan, tilt } = self.0;
+        if lens > 0 {
+            write!(f, " at lens pace {lens}")?;
         }
+        if pan > 0 {
+            write!(f, " at pan pace {pan}, tilt pace {tilt}")?;
+        }
+        Ok(())
     }
-    Ok(())
-}
-
-fn show_paces(rt: &impl Print, order: &Order) -> io::Result<()> {
-    let lens = order.paces.lens;
-    let pan = order.paces.pan;
-    let tilt = order.paces.tilt;
-    if lens > 0 {
-        print!(rt; " at lens pace {lens}")?;
-    }
-    if pan > 0 {
-        print!(rt; " at pan pace {pan}, tilt pace {tilt}")?;
-    }
-    Ok(())
 }
 
 /// An order in words: its targets and its paces.
-pub fn explain_order(rt: &impl Print, order: Order) -> io::Result<()> {
-    show_targets(rt, &order)?;
-    show_paces(rt, &order)?;
-    println!(rt; "")
+impl fmt::Display for InWords<Order> {
+    fn fmt<W: fmt::Write>(&self, f: &mut fmt::Formatter<W>) -> fmt::Result {
+        let InWords(order) = self;
+        let mut comma = "";
+        for setting in ALL {
+            if goes_without_saying(order, setting) {
+                continue;
+            }
+            if let Some(value) = order.target(setting) {
+                let target = InWords(Target { setting, value });
+                write!(f, "{comma}{target}")?;
+                comma = ", ";
+            }
+        }
+        let paces = InWords(order.paces);
+        write!(f, "{paces}")
+    }
 }
