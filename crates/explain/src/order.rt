@@ -58,22 +58,21 @@ impl fmt::Display for InWords<Paces> {
     }
 }
 
-/// An order in words: its targets and its paces.
+// An order in words: its targets and its paces.
 impl fmt::Display for InWords<Order> {
     fn fmt<W: fmt::Write>(&self, f: &mut fmt::Formatter<W>) -> fmt::Result {
         let InWords(order) = self;
-        let mut comma = "";
-        for setting in ALL {
-            if goes_without_saying(order, setting) {
-                continue;
-            }
-            if let Some(value) = order.target(setting) {
-                let target = InWords(Target { setting, value });
-                write!(f, "{comma}{target}")?;
-                comma = ", ";
-            }
+        let targets = ALL
+            .into_iter()
+            .filter(|setting| !goes_without_saying(order, *setting))
+            .filter_map(|setting| Some(Target {
+                setting,
+                value: order.target(setting)?,
+            }));
+        for (place, target) in targets.enumerate() {
+            let comma = if place == 0 { "" } else { ", " };
+            write!(f, "{comma}{}", InWords(target))?;
         }
-        let paces = InWords(order.paces);
-        write!(f, "{paces}")
+        InWords(order.paces).fmt(f)
     }
 }
