@@ -3,7 +3,7 @@
 use std::fmt;
 
 /// The body of a packet that the box sent, to be said in words.
-#[derive(Clone, Copy)]
+#[derive(Clone, Copy, Debug, PartialEq, Eq)]
 pub struct InWords<'a>(pub &'a [u8]);
 
 impl fmt::Display for InWords<'_> {
