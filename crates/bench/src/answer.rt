@@ -1,42 +1,33 @@
 //! What a call on the end answers, in words: the bytes that it sent, and its fault if there is one.
 
-ghost use Rattle.std.specs.Prelude.{◌≤◌};
-
-use end::Fault;
+use end::{Fault, bytes_sent};
 use hexadecimal::Hex;
 use std::fmt;
 use wire::FaultCode;
 
-/// A fault or none, and the bytes sent: so many at the front of the buffer.
+/// A fault or none, and the bytes sent.
 #[derive(Clone, Copy)]
-pub struct Answer {
+pub struct Answer<'a> {
     fault: Option<FaultCode>,
-    buffer: [u8; 64],
-    count: usize,
-    ghost inside: { count ≤ 64 },
+    sent: &'a [u8],
 }
 
-impl Answer {
-    /// The answer of a call that left the buffer so.
-    pub fn new(res: Result<usize, Fault>, buffer: [u8; 64]) -> Answer {
-        let (fault, count) = match res {
-            Ok(count) => (None, count),
-            Err(fault) => (Some(fault.into()), fault.sent),
-        };
+impl<'a> Answer<'a> {
+    /// The answer of a call that left its buffer so: what it sent stands at the front.
+    pub fn new(called: Result<usize, Fault>, buffer: &'a [u8]) -> Answer<'a> {
         Answer {
-            fault,
-            buffer,
-            count: count.min(64),
+            fault: called.err().map(FaultCode::from),
+            sent: &buffer[..bytes_sent(called).min(buffer.len())],
         }
     }
 
     /// Neither a fault nor a byte sent.
     pub fn is_quiet(&self) -> bool {
-        self.fault.is_none() && self.count == 0
+        self.fault.is_none() && self.sent.is_empty()
     }
 }
 
-impl fmt::Display for Answer {
+impl fmt::Display for Answer<'_> {
     fn fmt<W: fmt::Write>(&self, f: &mut fmt::Formatter<W>) -> fmt::Result {
         if let Some(code) = self.fault {
             let number = code.number;
@@ -44,11 +35,10 @@ impl fmt::Display for Answer {
             let place = code.place;
             write!(f, "fault {number} layer {layer} place {place} ")?;
         }
-        let count = self.count;
-        if count == 0 {
+        if self.sent.is_empty() {
             return write!(f, "sent nothing");
         }
-        let bytes = Hex(&self.buffer[0..count]);
+        let bytes = Hex(self.sent);
         write!(f, "sent {bytes}")
     }
 }

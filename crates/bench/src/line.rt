@@ -3,7 +3,7 @@
 ghost use Rattle.std.specs.Prelude.{◌≤◌};
 
 /// A head to make an end over.
-#[derive(Clone, Copy)]
+#[derive(Clone, Copy, Debug, PartialEq, Eq)]
 pub enum Kind {
     Block,
     Dome,
@@ -11,7 +11,7 @@ pub enum Kind {
 }
 
 /// The length of a buffer for the bytes that a call sends, at most 64.
-#[derive(Clone, Copy)]
+#[derive(Clone, Copy, Debug, PartialEq, Eq)]
 pub struct Room {
     pub len: usize,
     ghost few: { len ≤ 64 },
@@ -21,7 +21,7 @@ pub struct Room {
 pub const USUAL: Room = Room { len: 16 };
 
 /// A line that is understood.
-#[derive(Drop)]
+#[derive(Debug, PartialEq, Eq, Drop)]
 pub enum Line {
     Blank,
     Head(Kind),

@@ -11,16 +11,16 @@ mod stand;
 
 use parse::parse;
 use play::not_understood;
-use stand::Stand;
+use stand::go_on;
 use std::io;
 use std::io::{BufRead, BufReader};
 
 fn main(rt: HostRuntime) -> io::Result<()> {
     let heap = rt.alloc();
-    let mut stand = Stand::Nothing;
+    let mut stand = None;
     for text in BufReader::new(heap, rt.stdin())?.split(heap, b'\n') {
         match parse(heap, text?.as_slice())? {
-            Some(line) => stand = stand.go_on(&rt, line)?,
+            Some(line) => stand = go_on(stand, &rt, line)?,
             None => not_understood(&rt)?,
         }
     }

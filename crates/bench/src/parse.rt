@@ -9,50 +9,17 @@ use std::str::from_utf8;
 
 // The text in front of a comment.
 fn without_comment(text: &[u8]) -> &[u8] {
-    for (i, byte) in text.iter().enumerate() {
-        if *byte == b'#' {
-            return &text[0..i];
-        }
-    }
-    text
+    text.split(|byte| *byte == b'#').next().unwrap_or_default()
 }
 
-// The words of a text. Only spaces separate them.
-fn words_of(heap: Global, text: &str) -> Result<Vec<&str>, AllocError> {
-    let mut words = Vec::new(heap);
-    for word in text.split(' ') {
-        if !word.is_empty() {
-            words.push(word)?;
-        }
-    }
-    Ok(words)
-}
-
-fn decimal_digit(c: u8) -> Option<u32>
-    ensures { IfSome result (λ d. d < 10) }
-{
-    match c {
-        b'0'..=b'9' => Some((c - b'0') as u32),
-        _ => None,
-    }
-}
-
-// A decimal number, with leading zeros or without, if it is at most this high.
+// A decimal number, with leading zeros or without, if it is at most this high. A number has no sign.
 fn at_most(high: u32, word: &str) -> Option<u32>
-    requires { high ≤ 10000 }
     ensures { IfSome result (λ n. n ≤ high) }
 {
-    if word.is_empty() {
+    if word.starts_with('+') {
         return None;
     }
-    let mut number = 0;
-    for c in word.as_bytes() {
-        number = number * 10 + decimal_digit(*c)?;
-        if number > high {
-            return None;
-        }
-    }
-    Some(number)
+    word.parse().ok().filter(|number| *number <= high)
 }
 
 // The length of a buffer.
@@ -66,10 +33,7 @@ fn room(word: &str) -> Option<Room> {
 fn times(word: &str) -> Option<u32>
     ensures { IfSome result (λ n. (1 ≤ n) × (n ≤ 10000)) }
 {
-    match at_most(10000, word)? {
-        0 => None,
-        n => Some(n),
-    }
+    at_most(10000, word).filter(|times| *times > 0)
 }
 
 // Any line but one of bytes to send.
@@ -94,18 +58,8 @@ fn call(words: &[&str]) -> Option<Line> {
 
 // One or more bytes to send.
 fn send(heap: Global, words: &[&str]) -> Result<Option<Line>, AllocError> {
-    let mut bytes = Vec::new(heap);
-    for word in words {
-        match byte(word) {
-            Some(value) => bytes.push(value)?,
-            None => return Ok(None),
-        }
-    }
-    Ok(if bytes.is_empty() {
-        None
-    } else {
-        Some(Line::Send(bytes))
-    })
+    let bytes: Option<Vec<u8>> = words.iter().map(|word| byte(word)).collect(heap)?;
+    Ok(bytes.filter(|bytes| !bytes.is_empty()).map(Line::Send))
 }
 
 /// A line of a script, if the text is one.
@@ -114,7 +68,11 @@ pub fn parse(heap: Global, text: &[u8]) -> Result<Option<Line>, AllocError> {
     let Ok(text) = from_utf8(without_comment(text)) else {
         return Ok(None);
     };
-    let words = words_of(heap, text)?;
+    // Only spaces separate words.
+    let words: Vec<&str> = text
+        .split(' ')
+        .filter(|word| !word.is_empty())
+        .collect(heap)?;
     match words.as_slice() {
         ["send", bytes @ ..] => send(heap, bytes),
         words => Ok(call(words)),

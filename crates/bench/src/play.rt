@@ -1,28 +1,16 @@
 //! Lines of a script played on an end, over any head, with the answers written.
 
+ghost use Rattle.std.specs.Iterator.{IsFinite};
+
 use crate::answer::Answer;
 use crate::line::{Line, Room, USUAL};
-use end::{End, OpenSockets};
+use end::{End, Fault, OpenSockets};
 use head::Head;
 use std::io;
 
 /// What is written for a line that makes no call.
 pub fn not_understood(rt: &impl Print) -> io::Result<()> {
     println!(rt; "not understood")
-}
-
-fn byte<H: Head>(end: &mut End<H>, value: u8, room: Room) -> Answer {
-    let mut buffer = [0; 64];
-    let len = room.len;
-    let result = end.byte(value, &mut buffer[0..len]);
-    Answer::new(result, buffer)
-}
-
-fn tick<H: Head>(end: &mut End<H>, room: Room) -> Answer {
-    let mut buffer = [0; 64];
-    let len = room.len;
-    let result = end.tick(&mut buffer[0..len]);
-    Answer::new(result, buffer)
 }
 
 // Writes one of several answers, unless it is quiet, and says whether it did.
@@ -34,28 +22,37 @@ fn tell(rt: &impl Print, answer: Answer) -> io::Result<bool> {
     Ok(true)
 }
 
-// Several calls that told nothing still write a line.
-fn tell_nothing(rt: &impl Print, told: bool) -> io::Result<()> {
+// Makes a call for each item, with a buffer of this length, and writes the answers. Calls that all
+// told nothing still write a line.
+fn tell_each<T, I: Iterator<Item = T> + Drop, F: FnMut(T, &mut [u8]) -> Result<usize, Fault>>(
+    rt: &impl Print,
+    room: Room,
+    items: I,
+    mut call: F,
+) -> io::Result<()>
+    requires can { I.can_next items }
+    requires ends { IsFinite (I.remaining items) }
+    requires callable { F.IsAlwaysCallable call }
+{
+    let mut told = false;
+    for item in items {
+        let mut buffer = [0; 64];
+        let out = &mut buffer[..room.len];
+        let called = call(item, out);
+        told |= tell(rt, Answer::new(called, out))?;
+    }
     if told {
         return Ok(());
     }
     println!(rt; "sent nothing")
 }
 
-fn send<H: Head>(rt: &impl Print, end: &mut End<H>, bytes: &[u8]) -> io::Result<()> {
-    let mut told = false;
-    for value in bytes {
-        told |= tell(rt, byte(end, *value, USUAL))?;
-    }
-    tell_nothing(rt, told)
+fn send<H: Head>(rt: &impl Print, end: &mut End<H>, bytes: &[u8], room: Room) -> io::Result<()> {
+    tell_each(rt, room, bytes.iter(), |value, out| end.byte(*value, out))
 }
 
 fn ticks<H: Head>(rt: &impl Print, end: &mut End<H>, times: u32, room: Room) -> io::Result<()> {
-    let mut told = false;
-    for _ in 0..times {
-        told |= tell(rt, tick(end, room))?;
-    }
-    tell_nothing(rt, told)
+    tell_each(rt, room, 0..times, |_, out| end.tick(out))
 }
 
 fn open(rt: &impl Print, sockets: OpenSockets) -> io::Result<()> {
@@ -88,8 +85,8 @@ pub fn play<H: Head + Drop>(rt: &impl Print, end: End<H>, line: Line) -> io::Res
     match line {
         Line::Blank => {}
         Line::Head(_) => not_understood(rt)?,
-        Line::Byte(value, room) => rt.println(byte(&mut end, value, room))?,
-        Line::Send(bytes) => send(rt, &mut end, bytes.as_slice())?,
+        Line::Byte(value, room) => send(rt, &mut end, &[value], room)?,
+        Line::Send(bytes) => send(rt, &mut end, bytes.as_slice(), USUAL)?,
         Line::Tick(times, room) => ticks(rt, &mut end, times, room)?,
         Line::Open => open(rt, end.open())?,
         Line::Look(number) => look(rt, end.head(), number)?,

@@ -7,43 +7,43 @@ use end::End;
 use heads::{Block, Dome};
 use std::io;
 
+/// An end over one of the heads.
 #[derive(Drop)]
 pub enum Stand {
-    Nothing,
     Block(End<Block>),
     Dome(End<Dome>),
 }
 
-fn made(kind: Kind) -> Stand {
-    match kind {
-        Kind::Block => Stand::Block(End::make(Block::new())),
-        Kind::Dome => Stand::Dome(End::make(Dome::new(false))),
-        Kind::StalledDome => Stand::Dome(End::make(Dome::new(true))),
+impl From<Kind> for Stand {
+    fn from(kind: Kind) -> Stand {
+        match kind {
+            Kind::Block => Stand::Block(End::make(Block::new())),
+            Kind::Dome => Stand::Dome(End::make(Dome::new(false))),
+            Kind::StalledDome => Stand::Dome(End::make(Dome::new(true))),
+        }
     }
 }
 
 // A line with nothing on the bench.
-fn begin(rt: &impl Print, line: Line) -> io::Result<Stand> {
+fn begin(rt: &impl Print, line: Line) -> io::Result<Option<Stand>> {
     match line {
-        Line::Blank => Ok(Stand::Nothing),
+        Line::Blank => Ok(None),
         Line::Head(kind) => {
             println!(rt; "made")?;
-            Ok(made(kind))
+            Ok(Some(Stand::from(kind)))
         }
         _ => {
             not_understood(rt)?;
-            Ok(Stand::Nothing)
+            Ok(None)
         }
     }
 }
 
-impl Stand {
-    /// What stands there after a line.
-    pub fn go_on(self, rt: &impl Print, line: Line) -> io::Result<Stand> {
-        match self {
-            Stand::Nothing => begin(rt, line),
-            Stand::Block(end) => Ok(Stand::Block(play(rt, end, line)?)),
-            Stand::Dome(end) => Ok(Stand::Dome(play(rt, end, line)?)),
-        }
+/// What stands there after a line.
+pub fn go_on(stand: Option<Stand>, rt: &impl Print, line: Line) -> io::Result<Option<Stand>> {
+    match stand {
+        None => begin(rt, line),
+        Some(Stand::Block(end)) => Ok(Some(Stand::Block(play(rt, end, line)?))),
+        Some(Stand::Dome(end)) => Ok(Some(Stand::Dome(play(rt, end, line)?))),
     }
 }

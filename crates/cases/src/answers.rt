@@ -5,58 +5,30 @@ use rows::{Inquiry, answer, read_inquiry};
 use std::test::Fail;
 
 // Category and code, and the bytes of the answer.
-const ANSWERS: [([u8; 2], [u8; 12], usize); 7] = [
-    (
-        [0x04, 0x00],
-        [0x90, 0x50, 0x02, 0xff, 7, 7, 7, 7, 7, 7, 7, 7],
-        4,
-    ),
-    (
-        [0x04, 0x38],
-        [0x90, 0x50, 0x02, 0xff, 7, 7, 7, 7, 7, 7, 7, 7],
-        4,
-    ),
-    (
-        [0x04, 0x75],
-        [0x90, 0x50, 0x03, 0xff, 7, 7, 7, 7, 7, 7, 7, 7],
-        4,
-    ),
-    (
-        [0x04, 0x43],
-        [0x90, 0x50, 0, 0, 0, 0, 0xff, 7, 7, 7, 7, 7],
-        7,
-    ),
-    (
-        [0x04, 0x47],
-        [0x90, 0x50, 0, 0, 0, 0, 0xff, 7, 7, 7, 7, 7],
-        7,
-    ),
-    (
-        [0x04, 0x22],
-        [0x90, 0x50, 0, 0, 0, 0, 0xff, 7, 7, 7, 7, 7],
-        7,
-    ),
-    (
-        [0x06, 0x12],
-        [0x90, 0x50, 0, 0, 0, 0, 0, 0, 0, 0, 0xff, 7],
-        11,
-    ),
+const ANSWERS: [([u8; 2], &[u8]); 7] = [
+    ([0x04, 0x00], &[0x90, 0x50, 0x02, 0xff]),
+    ([0x04, 0x38], &[0x90, 0x50, 0x02, 0xff]),
+    ([0x04, 0x75], &[0x90, 0x50, 0x03, 0xff]),
+    ([0x04, 0x43], &[0x90, 0x50, 0, 0, 0, 0, 0xff]),
+    ([0x04, 0x47], &[0x90, 0x50, 0, 0, 0, 0, 0xff]),
+    ([0x04, 0x22], &[0x90, 0x50, 0, 0, 0, 0, 0xff]),
+    ([0x06, 0x12], &[0x90, 0x50, 0, 0, 0, 0, 0, 0, 0, 0, 0xff]),
 ];
 
 fn asked(body: &[u8]) -> Result<Inquiry, Fail> {
-    match read_inquiry(body) {
-        Ok((_, inquiry)) => Ok(inquiry),
-        Err(_) => Err(Fail::new("no such inquiry")),
-    }
+    let (_, inquiry) = read_inquiry(body).ok().ok_or("no such inquiry")?;
+    Ok(inquiry)
 }
 
 #[test]
 fn a_dome_answers(rt: HostRuntime) -> Result<(), Fail> {
     let dome = Dome::new(false);
-    for (body, bytes, count) in ANSWERS {
+    for (body, bytes) in ANSWERS {
         let mut out = [7; 12];
-        assert_eq!(rt; answer(&dome, asked(&body)?, 0x90, &mut out), Some(count));
-        assert_eq!(rt; out, bytes);
+        let count = answer(&dome, asked(&body)?, 0x90, &mut out);
+        assert_eq!(rt; count, Some(bytes.len()));
+        assert!(rt; out.starts_with(bytes));
+        assert!(rt; out.iter().skip(bytes.len()).all(|byte| *byte == 7));
     }
     Ok(())
 }

@@ -1,16 +1,9 @@
 //! Where a dome's positions are, tick by tick.
 
-use head::{Ending, Head, Look, Order, Paces, Setting, Target, Targets};
+use crate::orders::order_of;
+use head::{Ending, Head, Look, Paces, Setting, Target, Targets};
 use heads::Dome;
 use std::test::Fail;
-
-fn done(ending: Option<Ending>) -> bool {
-    matches!(ending, Some(Ending::Done))
-}
-
-fn jammed(ending: Option<Ending>) -> bool {
-    matches!(ending, Some(Ending::Jammed))
-}
 
 // A target, the pace for it, the ticks it takes, and the position after the first of them.
 const MOVES: [(Setting, i32, u8, u16, i32); 9] = [
@@ -38,9 +31,7 @@ fn steps(rt: HostRuntime) -> Result<(), Fail> {
             setting,
             value: target,
         }]);
-        let Some(order) = Order::new(targets, paces) else {
-            return Err(Fail::new("a setting is named twice"));
-        };
+        let order = order_of(targets, paces)?;
         assert!(rt; dome.start(1, order).is_ok());
         assert_eq!(rt; dome.ticks_left(1), ticks);
         let mut last = dome.tick();
@@ -49,7 +40,7 @@ fn steps(rt: HostRuntime) -> Result<(), Fail> {
             assert!(rt; last.one.is_none());
             last = dome.tick();
         }
-        assert!(rt; done(last.one));
+        assert!(rt; matches!(last.one, Some(Ending::Done)));
         assert_eq!(rt; dome.look(setting.number()), Some(target));
     }
     Ok(())
@@ -77,14 +68,13 @@ fn drives(rt: HostRuntime) -> Result<(), Fail> {
             setting: drive,
             value,
         }]);
-        let Some(order) = Order::new(targets, paces) else {
-            return Err(Fail::new("a setting is named twice"));
-        };
+        let order = order_of(targets, paces)?;
         let mut dome = Dome::new(false);
         let mut stalled = Dome::new(true);
         assert!(rt; dome.start(2, order).is_ok() && stalled.start(2, order).is_ok());
         // the drive has its value once the order is done, and moves from the next tick on
-        assert!(rt; done(dome.tick().two) && done(stalled.tick().two));
+        assert!(rt; matches!(dome.tick().two, Some(Ending::Done)));
+        assert!(rt; matches!(stalled.tick().two, Some(Ending::Done)));
         assert_eq!(rt; dome.look(position.number()), Some(0));
         dome.tick();
         stalled.tick();
@@ -109,23 +99,19 @@ fn a_stalled_dome_jams(rt: HostRuntime) -> Result<(), Fail> {
         setting: Setting::Mute,
         value: 2,
     };
-    let Some(order) = Order::new(Targets::Two([zoom, mute]), paces) else {
-        return Err(Fail::new("a setting is named twice"));
-    };
+    let order = order_of(Targets::Two([zoom, mute]), paces)?;
     let mut dome = Dome::new(true);
     assert!(rt; dome.start(1, order).is_ok());
     assert!(rt; dome.tick().one.is_none());
-    assert!(rt; jammed(dome.tick().one));
+    assert!(rt; matches!(dome.tick().one, Some(Ending::Jammed)));
     assert!(rt; dome.look(1) == Some(0) && dome.look(15) == Some(3));
     let home = Target {
         setting: Setting::Zoom,
         value: 0,
     };
-    let Some(order) = Order::new(Targets::Two([home, mute]), paces) else {
-        return Err(Fail::new("a setting is named twice"));
-    };
+    let order = order_of(Targets::Two([home, mute]), paces)?;
     assert!(rt; dome.start(1, order).is_ok());
-    assert!(rt; done(dome.tick().one));
+    assert!(rt; matches!(dome.tick().one, Some(Ending::Done)));
     assert_eq!(rt; dome.look(15), Some(2));
     Ok(())
 }

@@ -7,6 +7,8 @@ mod answers;
 #[cfg(test)]
 mod dome;
 #[cfg(test)]
+mod orders;
+#[cfg(test)]
 mod ranges;
 #[cfg(test)]
 mod starts;

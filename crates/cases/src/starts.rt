@@ -1,5 +1,6 @@
 //! Orders that a head turns down, with the number of the reason.
 
+use crate::orders::order_of;
 use head::{Head, Look, Order, Paces, Refusal, Setting, Target, Targets};
 use heads::{Block, Dome};
 use std::test::Fail;
@@ -39,9 +40,7 @@ fn reasons(rt: HostRuntime) -> Result<(), Fail> {
     let mut block = Block::new();
     let mut dome = Dome::new(false);
     for (slot, setting, value, by_block, by_dome) in ROWS {
-        let Some(order) = Order::new(Targets::One([to(setting, value)]), paces()) else {
-            return Err(Fail::new("a setting is named twice"));
-        };
+        let order = order_of(Targets::One([to(setting, value)]), paces())?;
         assert_eq!(rt; number(block.start(slot, order)), by_block);
         assert_eq!(rt; number(dome.start(slot, order)), by_dome);
     }
@@ -67,9 +66,7 @@ fn a_setting_named_twice_is_no_order(rt: HostRuntime) {
 #[test]
 fn a_dropped_slot_moves_nothing(rt: HostRuntime) -> Result<(), Fail> {
     let mut dome = Dome::new(false);
-    let Some(order) = Order::new(Targets::One([to(Setting::Tilt, 100)]), paces()) else {
-        return Err(Fail::new("a setting is named twice"));
-    };
+    let order = order_of(Targets::One([to(Setting::Tilt, 100)]), paces())?;
     assert_eq!(rt; number(dome.start(2, order)), 0);
     dome.drop_slot(1);
     dome.drop_slot(7);

@@ -67,9 +67,8 @@ fn show_end(rt: &impl Print, slot: u8, ending: Option<Ending>) -> io::Result<()>
 
 // Ticks the head so often, and shows a few of its settings after each tick.
 fn run<H: Head>(rt: &impl Print, head: &mut H, ticks: u16, shown: &[Setting]) -> io::Result<()> {
-    for tick in 0..ticks {
+    for tick in 1..=ticks {
         let Endings { one, two } = head.tick();
-        let tick = tick + 1;
         print!(rt; "  tick {tick}:")?;
         for setting in shown {
             show(rt, head, *setting)?;

@@ -5,51 +5,28 @@
 
 mod order;
 mod packet;
-mod text;
+mod words;
 
+use hexadecimal::{Hex, byte};
 use packet::explain_packet;
+use std::alloc::{AllocError, Global};
 use std::io;
-use text::{byte, framing_fault, show_bytes};
 use wire::{Framer, FramingFault, Packet};
+use words::explain_fault;
 
-// The bytes of a line, or none if a word is no byte. A line has room for 64.
-#[derive(Clone, Copy)]
-struct Parsed {
-    bytes: [u8; 64],
-    len: usize,
+// How many bytes a line has room for.
+const ROOM: usize = 64;
+
+// The bytes of a line, or none if a word is no byte or if they are too many.
+fn parse(heap: Global, line: &str) -> Result<Option<Vec<u8>>, AllocError> {
+    let bytes: Option<Vec<u8>> = line.split_whitespace().map(byte).collect(heap)?;
+    Ok(bytes.filter(|bytes| bytes.len() <= ROOM))
 }
 
-fn parse(line: &str) -> Option<Parsed> {
-    let mut bytes = [0; 64];
-    let mut len = 0usize;
-    for word in line.split_whitespace() {
-        if len >= bytes.len() {
-            return None;
-        }
-        bytes[len] = byte(word)?;
-        len += 1;
-    }
-    Some(Parsed { bytes, len })
-}
-
-// Explains what a byte tells, and says whether it told anything.
-fn explain_event(rt: &impl Print, event: Result<Option<Packet>, FramingFault>) -> io::Result<bool> {
+fn explain_event(rt: &impl Print, event: Result<Packet, FramingFault>) -> io::Result<()> {
     match event {
-        Ok(whole) => explain_whole(rt, whole),
-        Err(fault) => {
-            framing_fault(rt, fault)?;
-            Ok(true)
-        }
-    }
-}
-
-fn explain_whole(rt: &impl Print, whole: Option<Packet>) -> io::Result<bool> {
-    match whole {
-        Some(packet) => {
-            explain_packet(rt, packet.header(), packet.body())?;
-            Ok(true)
-        }
-        None => Ok(false),
+        Ok(packet) => explain_packet(rt, &packet),
+        Err(fault) => explain_fault(rt, fault.into(), &fault),
     }
 }
 
@@ -57,10 +34,12 @@ fn explain_whole(rt: &impl Print, whole: Option<Packet>) -> io::Result<bool> {
 fn explain(rt: &impl Print, bytes: &[u8]) -> io::Result<()> {
     let mut framer = Framer::new();
     let mut told = false;
-    for byte in bytes {
-        if explain_event(rt, framer.feed(*byte))? {
-            told = true;
-        }
+    for event in bytes
+        .iter()
+        .filter_map(|byte| framer.feed(*byte).transpose())
+    {
+        explain_event(rt, event)?;
+        told = true;
     }
     if told {
         return Ok(());
@@ -68,23 +47,21 @@ fn explain(rt: &impl Print, bytes: &[u8]) -> io::Result<()> {
     println!(rt; "no whole packet")
 }
 
-fn explain_line(rt: &impl Print, line: &str) -> io::Result<()> {
-    let Some(parsed) = parse(line) else {
+fn explain_line(rt: &impl Print, heap: Global, line: &str) -> io::Result<()> {
+    let Some(bytes) = parse(heap, line)? else {
         return println!(rt; "not understood");
     };
-    let bytes = parsed.bytes;
-    let len = parsed.len;
-    if len == 0 || len > bytes.len() {
+    if bytes.is_empty() {
         return Ok(());
     }
-    show_bytes(rt, &bytes[0..len])?;
-    explain(rt, &bytes[0..len])
+    print!(rt; "{}  ", Hex(bytes.as_slice()))?;
+    explain(rt, bytes.as_slice())
 }
 
 fn main(rt: HostRuntime) -> io::Result<()> {
-    for line in rt.lines(rt.alloc()) {
-        let line = line?;
-        explain_line(&rt, line.as_str())?;
+    let heap = rt.alloc();
+    for line in rt.lines(heap) {
+        explain_line(&rt, heap, line?.as_str())?;
     }
     Ok(())
 }

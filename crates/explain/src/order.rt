@@ -1,7 +1,8 @@
 //! Orders in words.
 
-use head::{Axis, Order, Setting};
-use std::io;
+use crate::words::InWords;
+use head::{Order, Paces, Setting, Target};
+use std::fmt;
 
 // What a value of a setting with a list is called.
 fn value_name(setting: Setting, value: i32) -> &'static str {
@@ -25,51 +26,52 @@ fn value_name(setting: Setting, value: i32) -> &'static str {
 
 // Whether the order moves the position whose drive this is: its drive to 0 then goes without saying.
 fn goes_without_saying(order: &Order, setting: Setting) -> bool {
-    let axis = match setting {
-        Setting::ZoomDrive => Axis::Zoom,
-        Setting::FocusDrive => Axis::Focus,
-        Setting::PanDrive => Axis::Pan,
-        Setting::TiltDrive => Axis::Tilt,
+    let position = match setting {
+        Setting::ZoomDrive => Setting::Zoom,
+        Setting::FocusDrive => Setting::Focus,
+        Setting::PanDrive => Setting::Pan,
+        Setting::TiltDrive => Setting::Tilt,
         _ => return false,
     };
-    order.target(axis.position()).is_some()
+    order.target(position).is_some()
 }
 
-fn show_target(rt: &impl Print, first: bool, setting: Setting, value: i32) -> io::Result<()> {
-    let comma = if first { "" } else { ", " };
-    let name = value_name(setting, value);
-    print!(rt; "{comma}{setting} to {value}{name}")
+impl fmt::Display for InWords<Target> {
+    fn fmt<W: fmt::Write>(&self, f: &mut fmt::Formatter<W>) -> fmt::Result {
+        let Target { setting, value } = self.0;
+        let name = value_name(setting, value);
+        write!(f, "{setting} to {value}{name}")
+    }
 }
 
-fn show_targets(rt: &impl Print, order: &Order) -> io::Result<()> {
-    let mut first = true;
-    for setting in Setting::ALL {
-        if let Some(value) = order.target(setting) {
-            if !goes_without_saying(order, setting) {
-                show_target(rt, first, setting, value)?;
-                first = false;
-            }
+impl fmt::Display for InWords<Paces> {
+    fn fmt<W: fmt::Write>(&self, f: &mut fmt::Formatter<W>) -> fmt::Result {
+        let Paces { lens, pan, tilt } = self.0;
+        if lens > 0 {
+            write!(f, " at lens pace {lens}")?;
         }
+        if pan > 0 {
+            write!(f, " at pan pace {pan}, tilt pace {tilt}")?;
+        }
+        Ok(())
     }
-    Ok(())
 }
 
-fn show_paces(rt: &impl Print, order: &Order) -> io::Result<()> {
-    let lens = order.paces.lens;
-    let pan = order.paces.pan;
-    let tilt = order.paces.tilt;
-    if lens > 0 {
-        print!(rt; " at lens pace {lens}")?;
+// An order in words: its targets and its paces.
+impl fmt::Display for InWords<Order> {
+    fn fmt<W: fmt::Write>(&self, f: &mut fmt::Formatter<W>) -> fmt::Result {
+        let InWords(order) = self;
+        let targets = Setting::ALL
+            .into_iter()
+            .filter(|setting| !goes_without_saying(order, *setting))
+            .filter_map(|setting| Some(Target {
+                setting,
+                value: order.target(setting)?,
+            }));
+        for (place, target) in targets.enumerate() {
+            let comma = if place == 0 { "" } else { ", " };
+            write!(f, "{comma}{}", InWords(target))?;
+        }
+        InWords(order.paces).fmt(f)
     }
-    if pan > 0 {
-        print!(rt; " at pan pace {pan}, tilt pace {tilt}")?;
-    }
-    Ok(())
-}
-
-/// An order in words: its targets and its paces.
-pub fn explain_order(rt: &impl Print, order: Order) -> io::Result<()> {
-    show_targets(rt, &order)?;
-    show_paces(rt, &order)?;
-    println!(rt; "")
 }

@@ -1,105 +1,110 @@
 //! Whole packets in words: what is asked of a camera, and what cameras reply.
 
-use crate::order::explain_order;
-use crate::text::packet_fault;
+use crate::words::{InWords, explain_fault};
+use hexadecimal::Hex;
 use rows::{Form, Inquiry, Request, read};
-use std::io;
+use rules::{Problem, Reply, UnknownCode, Unread};
+use std::{fmt, io};
+use wire::Packet;
 
-fn explain_inquiry(rt: &impl Print, inquiry: Inquiry) -> io::Result<()> {
-    match inquiry.form {
-        Form::PanTilt => println!(rt; "inquiry: pan and tilt"),
-        _ => {
-            let setting = inquiry.setting;
-            println!(rt; "inquiry: {setting}")
+impl fmt::Display for InWords<Inquiry> {
+    fn fmt<W: fmt::Write>(&self, f: &mut fmt::Formatter<W>) -> fmt::Result {
+        let Inquiry { setting, form } = self.0;
+        match form {
+            Form::PanTilt => write!(f, "inquiry: pan and tilt"),
+            _ => write!(f, "inquiry: {setting}"),
         }
     }
 }
 
-fn explain_read(rt: &impl Print, request: Request) -> io::Result<()> {
-    match request {
-        Request::Command(_, order) => explain_order(rt, order),
-        Request::Ask(inquiry) => explain_inquiry(rt, inquiry),
+impl fmt::Display for InWords<Request> {
+    fn fmt<W: fmt::Write>(&self, f: &mut fmt::Formatter<W>) -> fmt::Result {
+        match self.0 {
+            Request::Command(_, order) => InWords(order).fmt(f),
+            Request::Ask(inquiry) => InWords(inquiry).fmt(f),
+        }
     }
 }
 
 // What is asked of one camera.
 fn explain_request(rt: &impl Print, body: &[u8]) -> io::Result<()> {
     match body {
-        [0x01, 0x00, 0x01] => return println!(rt; "clear"),
-        [b] if *b >= 0x20 && *b <= 0x2f => {
-            let socket = *b - 0x20;
-            return println!(rt; "cancel: socket {socket}");
-        }
-        _ => {}
-    }
-    match read(body) {
-        Ok(request) => explain_read(rt, request),
-        Err(fault) => packet_fault(rt, fault),
+        [0x01, 0x00, 0x01] => println!(rt; "clear"),
+        [code @ 0x20..=0x2f] => println!(rt; "cancel: socket {}", code % 16),
+        _ => match read(body) {
+            Ok(request) => rt.println(InWords(request)),
+            Err(fault) => explain_fault(rt, fault.into(), &fault),
+        },
     }
 }
 
-fn explain_broadcast(rt: &impl Print, body: &[u8]) -> io::Result<()> {
-    match body {
-        [0x30, w] if *w >= 1 && *w <= 7 => {
-            let w = *w;
-            println!(rt; "address set: the next camera is {w}")
+// The body of a broadcast.
+#[derive(Clone, Copy)]
+struct Broadcast<'a>(&'a [u8]);
+
+impl fmt::Display for Broadcast<'_> {
+    fn fmt<W: fmt::Write>(&self, f: &mut fmt::Formatter<W>) -> fmt::Result {
+        match self.0 {
+            [0x30, next @ 1..=7] => write!(f, "address set: the next camera is {next}"),
+            [0x30, 0x08] => write!(f, "address set: every camera has its address"),
+            [0x01, 0x00, 0x01] => write!(f, "clear, for every camera"),
+            _ => write!(f, "another broadcast"),
         }
-        [0x30, 0x08] => println!(rt; "address set: every camera has its address"),
-        [0x01, 0x00, 0x01] => println!(rt; "clear, for every camera"),
-        _ => println!(rt; "another broadcast"),
     }
 }
 
-fn error_text(code: u8) -> &'static str {
-    match code {
-        0x01 => "message length error",
-        0x02 => "syntax error",
-        0x03 => "both sockets are open",
-        0x04 => "cancelled",
-        0x05 => "no such socket is open",
-        0x41 => "not executable",
-        _ => "another error",
+impl fmt::Display for InWords<Problem> {
+    fn fmt<W: fmt::Write>(&self, f: &mut fmt::Formatter<W>) -> fmt::Result {
+        f.write_str(match self.0 {
+            Problem::Syntax => "syntax error",
+            Problem::BufferFull => "both sockets are open",
+            Problem::Cancelled => "cancelled",
+            Problem::NoSocket => "no such socket is open",
+            Problem::NotExecutable => "not executable",
+        })
     }
 }
 
-// What a camera replies.
-fn explain_reply(rt: &impl Print, from: u8, body: &[u8]) -> io::Result<()> {
-    print!(rt; "from camera {from}: ")?;
-    match body {
-        [b] if *b >= 0x40 && *b <= 0x4f => {
-            let socket = *b - 0x40;
-            println!(rt; "acknowledgement, socket {socket}")
-        }
-        [0x50] => println!(rt; "done"),
-        [b] if *b > 0x50 && *b <= 0x5f => {
-            let socket = *b - 0x50;
-            println!(rt; "completion, socket {socket}")
-        }
-        [0x50, rest @ ..] => {
-            print!(rt; "answer")?;
-            for byte in rest {
-                print!(rt; " {byte:02X}")?;
+impl fmt::Display for InWords<Reply> {
+    fn fmt<W: fmt::Write>(&self, f: &mut fmt::Formatter<W>) -> fmt::Result {
+        match self.0 {
+            Reply::Acknowledgement(socket) => write!(f, "acknowledgement, socket {socket}"),
+            Reply::Completion(0) => write!(f, "done"),
+            Reply::Completion(socket) => write!(f, "completion, socket {socket}"),
+            Reply::Error(socket, problem) => {
+                write!(f, "error, socket {socket}: {}", InWords(problem))
             }
-            println!(rt; "")
         }
-        [b, code] if *b >= 0x60 && *b <= 0x6f => {
-            let socket = *b - 0x60;
-            let text = error_text(*code);
-            println!(rt; "error, socket {socket}: {text}")
+    }
+}
+
+// The body of what a camera replies. Other makes have errors and answers of their own.
+#[derive(Clone, Copy)]
+struct Replied<'a>(&'a [u8]);
+
+impl fmt::Display for Replied<'_> {
+    fn fmt<W: fmt::Write>(&self, f: &mut fmt::Formatter<W>) -> fmt::Result {
+        match (Reply::read(self.0), self.0) {
+            (Ok(reply), _) => InWords(reply).fmt(f),
+            (Err(Unread::Error(socket, UnknownCode(1))), _) => {
+                write!(f, "error, socket {socket}: message length error")
+            }
+            (Err(Unread::Error(socket, _)), _) => {
+                write!(f, "error, socket {socket}: another error")
+            }
+            (Err(Unread::Form), [0x50, rest @ ..]) => write!(f, "answer {}", Hex(rest)),
+            (Err(Unread::Form), _) => write!(f, "another reply"),
         }
-        _ => println!(rt; "another reply"),
     }
 }
 
 /// A whole packet in words, by its header: bits 6 to 4 are the sender, bit 3 marks broadcast, bits
 /// 2 to 0 are the receiver.
-pub fn explain_packet(rt: &impl Print, header: u8, body: &[u8]) -> io::Result<()> {
-    let from = header / 16 % 8;
-    if from > 0 {
-        explain_reply(rt, from, body)
-    } else if header == 0x88 {
-        explain_broadcast(rt, body)
-    } else {
-        explain_request(rt, body)
+pub fn explain_packet(rt: &impl Print, packet: &Packet) -> io::Result<()> {
+    let body = packet.body();
+    match packet.header() {
+        0x88 => rt.println(Broadcast(body)),
+        0x80..=0x8f => explain_request(rt, body),
+        header => println!(rt; "from camera {}: {}", header / 16 % 8, Replied(body)),
     }
 }

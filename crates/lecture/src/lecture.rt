@@ -4,7 +4,7 @@
 use Step::{Say, Send, Wait, Watch};
 
 /// A step of the lecture.
-#[derive(Clone, Copy)]
+#[derive(Clone, Copy, Debug, PartialEq, Eq)]
 pub enum Step {
     Say(&'static str),
     /// A packet from the joystick, and what it asks for.

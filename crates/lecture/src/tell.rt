@@ -2,57 +2,50 @@
 //! the camera looks.
 
 use crate::lecture::Step;
-use crate::words::explain;
+use crate::words::InWords;
 use end::{End, Fault, ROOM, bytes_sent};
 use head::{Head, Look, Setting};
 use hexadecimal::Hex;
 use std::io;
-use wire::{Framer, Packet};
+use wire::Framer;
 
-// A packet that the box sent, if one is whole.
-fn tell_packet(rt: &impl Print, whole: Option<Packet>) -> io::Result<()> {
-    match whole {
-        Some(packet) => {
-            let bytes = Hex(packet.bytes());
-            print!(rt; "  box       {bytes}  ")?;
-            explain(rt, packet.body())
-        }
-        None => Ok(()),
-    }
-}
-
+// Tells the packets that the box sent.
 fn tell_packets(rt: &impl Print, bytes: &[u8]) -> io::Result<()> {
     let mut framer = Framer::new();
-    for byte in bytes {
-        if let Ok(whole) = framer.feed(*byte) {
-            tell_packet(rt, whole)?;
-        }
+    for packet in bytes
+        .iter()
+        .filter_map(|byte| framer.feed(*byte).ok().flatten())
+    {
+        let body = InWords(packet.body());
+        println!(rt; "  box       {}  {body}", Hex(packet.bytes()))?;
     }
     Ok(())
 }
 
-// What a call sent, with a fault or without: so many bytes at the front of its buffer.
-fn tell_sent(rt: &impl Print, answer: Result<usize, Fault>, out: &[u8]) -> io::Result<()> {
-    let count = bytes_sent(answer);
-    tell_packets(rt, &out[0..count.min(out.len())])
+// Makes a call and tells what it sent, with a fault or without: so many bytes at the front of its
+// buffer.
+fn tell_call<F: FnOnce(&mut [u8]) -> Result<usize, Fault>>(
+    rt: &impl Print,
+    call: F,
+) -> io::Result<()>
+    requires { F.IsAlwaysCallable call }
+{
+    let mut out = [0; ROOM];
+    let count = bytes_sent(call(&mut out));
+    tell_packets(rt, &out[..count.min(ROOM)])
 }
 
 fn send<H: Head>(rt: &impl Print, end: &mut End<H>, packet: &[u8], text: &str) -> io::Result<()> {
-    let bytes = Hex(packet);
-    println!(rt; "  joystick  {bytes}  {text}")?;
+    println!(rt; "  joystick  {}  {text}", Hex(packet))?;
     for byte in packet {
-        let mut out = [0; ROOM];
-        let answer = end.byte(*byte, &mut out);
-        tell_sent(rt, answer, &out)?;
+        tell_call(rt, |out| end.byte(*byte, out))?;
     }
     Ok(())
 }
 
 fn wait<H: Head>(rt: &impl Print, end: &mut End<H>, ticks: u32) -> io::Result<()> {
     for _ in 0..ticks {
-        let mut out = [0; ROOM];
-        let answer = end.tick(&mut out);
-        tell_sent(rt, answer, &out)?;
+        tell_call(rt, |out| end.tick(out))?;
     }
     Ok(())
 }

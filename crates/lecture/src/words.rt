@@ -1,36 +1,40 @@
 //! What the packets that the box sends say, in words.
 
-use std::io;
+use rules::{Problem, Reply};
+use std::fmt;
 
-fn explain_error(rt: &impl Print, socket: u8, code: u8) -> io::Result<()> {
-    match (socket, code) {
-        (0, 0x02) => println!(rt; "not understood"),
-        (0, 0x03) => println!(rt; "both sockets are taken"),
-        (0, 0x41) => println!(rt; "not possible now"),
-        (_, 0x04) => println!(rt; "cancelled in socket {socket}"),
-        (_, 0x05) => println!(rt; "nothing to cancel in socket {socket}"),
-        (_, 0x41) => println!(rt; "jammed in socket {socket}"),
-        _ => println!(rt; "another error"),
+/// The body of a packet that the box sent, to be said in words.
+#[derive(Clone, Copy, Debug, PartialEq, Eq)]
+pub struct InWords<'a>(pub &'a [u8]);
+
+// What a packet says that is a reply.
+fn write_reply<W: fmt::Write>(f: &mut fmt::Formatter<W>, reply: Reply) -> fmt::Result {
+    match reply {
+        Reply::Acknowledgement(socket) => write!(f, "acknowledged in socket {socket}"),
+        Reply::Completion(0) => write!(f, "another packet"),
+        Reply::Completion(socket) => write!(f, "done in socket {socket}"),
+        Reply::Error(0, Problem::Syntax) => write!(f, "not understood"),
+        Reply::Error(0, Problem::BufferFull) => write!(f, "both sockets are taken"),
+        Reply::Error(0, Problem::NotExecutable) => write!(f, "not possible now"),
+        Reply::Error(socket, Problem::Cancelled) => write!(f, "cancelled in socket {socket}"),
+        Reply::Error(socket, Problem::NoSocket) => {
+            write!(f, "nothing to cancel in socket {socket}")
+        }
+        Reply::Error(socket, Problem::NotExecutable) => write!(f, "jammed in socket {socket}"),
+        Reply::Error(..) => write!(f, "another error"),
     }
 }
 
-/// Writes what a packet with this body says.
-pub fn explain(rt: &impl Print, body: &[u8]) -> io::Result<()> {
-    match body {
-        [0x30, next] => println!(rt; "address {next} is for the next camera"),
-        [b] if *b >= 0x40 && *b <= 0x4f => {
-            let socket = *b - 0x40;
-            println!(rt; "acknowledged in socket {socket}")
+impl fmt::Display for InWords<'_> {
+    fn fmt<W: fmt::Write>(&self, f: &mut fmt::Formatter<W>) -> fmt::Result {
+        match (Reply::read(self.0), self.0) {
+            (Ok(reply), _) => write_reply(f, reply),
+            (_, [0x30, next]) => write!(f, "address {next} is for the next camera"),
+            (_, [0x50, p, q, r, s]) => {
+                let value = *p as u32 * 4096 + *q as u32 * 256 + *r as u32 * 16 + *s as u32;
+                write!(f, "at {value}")
+            }
+            _ => write!(f, "another packet"),
         }
-        [b] if *b > 0x50 && *b <= 0x5f => {
-            let socket = *b - 0x50;
-            println!(rt; "done in socket {socket}")
-        }
-        [b, code] if *b >= 0x60 && *b <= 0x6f => explain_error(rt, *b - 0x60, *code),
-        [0x50, p, q, r, s] => {
-            let value = *p as u32 * 4096 + *q as u32 * 256 + *r as u32 * 16 + *s as u32;
-            println!(rt; "at {value}")
-        }
-        _ => println!(rt; "another packet"),
     }
 }

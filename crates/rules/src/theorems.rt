@@ -4,8 +4,6 @@
 ghost use Rattle.rules.specs.Replies.{RepliesReadBack};
 
 /// A reply that is sent is read as itself.
-pub fn replies_read_back() -> u8
+pub fn replies_read_back()
     ensures { RepliesReadBack }
-{
-    0
-}
+{}

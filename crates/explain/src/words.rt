@@ -1,0 +1,13 @@
+//! How values of other crates are said in words.
+
+use std::{fmt, io};
+use wire::FaultCode;
+
+/// A value, to be said in words.
+#[derive(Clone, Copy)]
+pub struct InWords<T>(pub T);
+
+/// Writes a fault, by its code and its own words.
+pub fn explain_fault(rt: &impl Print, code: FaultCode, fault: &impl fmt::Display) -> io::Result<()> {
+    println!(rt; "fault {} at place {}: {fault}", code.number, code.place)
+}
