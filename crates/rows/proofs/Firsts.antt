@@ -1,10 +1,9 @@
 -- The first element that f gives something for, as a loop over numbered elements finds it.
-use Rattle.std.proofs.Common.{◌≡◌, ℕ, zero, suc, ◌+◌, ◌<◌, ◌≤◌, true, List, [], ◌∷◌, length, get_or, IfSome, IsSomeAnd, MatchOption, IsTrue, Some, None, Err, Ok, Option, Result, Bor, sym, refl, ap, ◌∙◌, subst, arith}
+use Rattle.std.proofs.Common.{◌≡◌, ℕ, zero, suc, ◌+◌, ◌<◌, List, [], ◌∷◌, length, get_or, IfSome, IsSomeAnd, MatchOption, IsTrue, Some, None, Option, Bor, sym, refl, ap, ◌∙◌, arith}
 use denote.Param.Members.{Mut}
 use Rattle.std.specs.Fn.{Called}
 use Rattle.std.specs.Iterator.Runs.{Run, ProjectsRun, ItemsMapTo, AllItemsGive, IsFirstToGive}
-use Rattle.std.specs.Option.{option_map, ok_or}
-use Rattle.std.specs.Result.{IsErrAnd}
+use Rattle.std.specs.Option.{option_map}
 use Rattle.head.proofs.Options.{no_some, some_out}
 use Rattle.rows.specs.Search.{first_of}
 
