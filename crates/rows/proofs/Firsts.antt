@@ -29,6 +29,9 @@ module _ {X M : Type 0} (f : X → Option M) where
   something None i y e = no_some (sym e)
   something (Some m) i y e = (m, refl, some_out e)
 
+  renumbered : (y : ℕ × M) (k i : ℕ) (m : M) (r : Option (ℕ × M)) → y ≡ (k, m) → k ≡ i → Some (i, m) ≡ r → Some y ≡ r
+  renumbered y k i m r z n e = ap Some z ∙ ap (λ (j : ℕ). Some (j, m)) n ∙ e
+
   -- the numbered element at a place, of which P holds
   at_place : (xs : List X) (P : ℕ × Bor X → Type 0) (o : Option (ℕ × Bor X)) (k : ℕ) → X → IfSome o P → IfSome o (λ x. x.0 ≡ k)
       → ((d : X) → option_map (λ y. y.now) (option_map (λ x. x.1) o) ≡ Some (get_or xs k d)) → (x : ℕ × Bor X) × P x × (x.0 ≡ k) × ((d : X) → x.1.now ≡ get_or xs k d)
@@ -62,4 +65,4 @@ module _ {X M : Type 0} (f : X → Option M) where
         let (x, a, n, e) = element i l (λ x. Called g c (x, tt) (Some y) c) s.0 s.1 in
         let (m, o, z) = something (f x.1.now) x.0 y (calls x (Some y) c a).1 in
         let before : (k : ℕ) (d : X) → k < i → f (get_or xs k d) ≡ None = λ k d j. passed k d (omega arith) (some_at (λ x. Called g c (x, tt) None c) (p.at k) (b.1 k j)).1 in
-        ap Some z ∙ ap (λ (k : ℕ). Some (k, m)) n ∙ found xs i m (omega (arith, behind.0, items.0)) (λ d. ap f (sym (e d)) ∙ o) before
+        renumbered y x.0 i m _ z n (found xs i m (omega (arith, behind.0, items.0)) (λ d. ap f (sym (e d)) ∙ o) before)
