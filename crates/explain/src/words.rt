@@ -8,6 +8,10 @@ use wire::FaultCode;
 pub struct InWords<T>(pub T);
 
 /// Writes a fault, by its code and its own words.
-pub fn explain_fault(rt: &impl Print, code: FaultCode, fault: &impl fmt::Display) -> io::Result<()> {
+pub fn explain_fault(
+    rt: &impl Print,
+    code: FaultCode,
+    fault: &impl fmt::Display,
+) -> io::Result<()> {
     println!(rt; "fault {} at place {}: {fault}", code.number, code.place)
 }

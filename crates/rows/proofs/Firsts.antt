@@ -1,10 +1,9 @@
 -- The first element that f gives something for, as a loop over numbered elements finds it.
-use Rattle.std.proofs.Common.{◌≡◌, ℕ, zero, suc, ◌+◌, ◌<◌, ◌≤◌, true, List, [], ◌∷◌, length, get_or, IfSome, IsSomeAnd, MatchOption, IsTrue, Some, None, Err, Ok, Option, Result, Bor, sym, refl, ap, ◌∙◌, subst, arith}
+use Rattle.std.proofs.Common.{◌≡◌, ℕ, zero, suc, ◌+◌, ◌<◌, List, [], ◌∷◌, length, get_or, IfSome, IsSomeAnd, MatchOption, IsTrue, Some, None, Option, Bor, sym, refl, ap, ◌∙◌, arith}
 use denote.Param.Members.{Mut}
 use Rattle.std.specs.Fn.{Called}
 use Rattle.std.specs.Iterator.Runs.{Run, ProjectsRun, ItemsMapTo, AllItemsGive, IsFirstToGive}
-use Rattle.std.specs.Option.{option_map, ok_or}
-use Rattle.std.specs.Result.{IsErrAnd}
+use Rattle.std.specs.Option.{option_map}
 use Rattle.head.proofs.Options.{no_some, some_out}
 use Rattle.rows.specs.Search.{first_of}
 
@@ -29,6 +28,9 @@ module _ {X M : Type 0} (f : X → Option M) where
   something : (o : Option M) (i : ℕ) (y : ℕ × M) → Some y ≡ numbered i o → (m : M) × (o ≡ Some m) × (y ≡ (i, m))
   something None i y e = no_some (sym e)
   something (Some m) i y e = (m, refl, some_out e)
+
+  renumbered : (y : ℕ × M) (k i : ℕ) (m : M) (r : Option (ℕ × M)) → y ≡ (k, m) → k ≡ i → Some (i, m) ≡ r → Some y ≡ r
+  renumbered y k i m r z n e = ap Some z ∙ ap (λ (j : ℕ). Some (j, m)) n ∙ e
 
   -- the numbered element at a place, of which P holds
   at_place : (xs : List X) (P : ℕ × Bor X → Type 0) (o : Option (ℕ × Bor X)) (k : ℕ) → X → IfSome o P → IfSome o (λ x. x.0 ≡ k)
@@ -63,4 +65,4 @@ module _ {X M : Type 0} (f : X → Option M) where
         let (x, a, n, e) = element i l (λ x. Called g c (x, tt) (Some y) c) s.0 s.1 in
         let (m, o, z) = something (f x.1.now) x.0 y (calls x (Some y) c a).1 in
         let before : (k : ℕ) (d : X) → k < i → f (get_or xs k d) ≡ None = λ k d j. passed k d (omega arith) (some_at (λ x. Called g c (x, tt) None c) (p.at k) (b.1 k j)).1 in
-        ap Some z ∙ ap (λ (k : ℕ). Some (k, m)) n ∙ found xs i m (omega (arith, behind.0, items.0)) (λ d. ap f (sym (e d)) ∙ o) before
+        renumbered y x.0 i m _ z n (found xs i m (omega (arith, behind.0, items.0)) (λ d. ap f (sym (e d)) ∙ o) before)

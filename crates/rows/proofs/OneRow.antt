@@ -13,7 +13,7 @@ use Rattle.rows.specs.Commands.{CommandRow, commands, read_command}
 use Rattle.rows.specs.OneRow.{row_at, admitted_by, ByOneRow}
 use Rattle.rows.specs.Reading.{count, reads}
 use Rattle.rows.specs.Rows.{row_has, row_reads}
-use Rattle.rows.specs.Search.{meaning, first_or, first_of, fault_of}
+use Rattle.rows.specs.Search.{meaning, first_or, first_of}
 use Rattle.rows.proofs.Somes.{when_some, bound}
 
 -- What a row that admits a command has of it.

@@ -2,6 +2,7 @@
 use Rattle.std.specs.Prelude.{ℕ, ◌/◌, ◌%◌, Bool, cond, List, [], ◌∷◌, ◌++◌, length, ℤ, Some, None, Option, nat_le}
 use Rattle.head.specs.declared.setting.Setting.{Setting}
 use Rattle.head.specs.declared.setting.Setting.TheVariants.{Pan, Tilt}
+use Rattle.head.specs.declared.traits.Look.{Ghosts}
 use Rattle.rows.specs.declared.inquiries.Form.{Form}
 use Rattle.rows.specs.declared.inquiries.Form.TheVariants.{Digit, Level, Number, PanTilt}
 use Rattle.rows.specs.declared.inquiries.Inquiry.{Inquiry}
@@ -22,8 +23,9 @@ told PanTilt f s pantilt = cond pantilt (0x50 ∷ (looked_digits f Pan ++ looked
 abbrev pub answered : ℕ → Inquiry → (Setting → ℤ) → Bool → List ℕ
 answered header q f pantilt = header ∷ (told q.form f q.setting pantilt ++ 0xff ∷ [])
 
-abbrev pub pan_tilt_answered : ℕ → (Setting → ℤ) → Bool → List ℕ
-pan_tilt_answered header f pantilt = header ∷ (told PanTilt f Pan pantilt ++ 0xff ∷ [])
+-- the packet that answers for what can be looked at
+abbrev pub answer_of : {L : Type 0} → Ghosts L → L → ℕ → Inquiry → List ℕ
+answer_of look x header q = answered header q (look.setting x) (look.pantilt x)
 
 -- bytes put at the front of a buffer, if it has room for them
 abbrev pub count_of : List ℕ → List ℕ → Option ℕ

@@ -1,4 +1,5 @@
 pub mod Search
+pub mod Admitted
 pub mod Digits
 pub mod Codes
 pub mod Reading

@@ -1,7 +1,10 @@
 //! Inquiries answered, from whatever can be looked at.
 
 ghost use Rattle.std.specs.Prelude.{◌≡◌};
-ghost use Rattle.rows.specs.Answers.{looked_digits, answered, pan_tilt_answered, sent as sent_into, count_of};
+ghost use Rattle.rows.specs.Answers.{looked_digits, answer_of, sent as sent_into, count_of};
+ghost use Rattle.rows.specs.Inquiries.{asks};
+ghost use Rattle.head.specs.declared.setting.Setting.TheVariants.{Pan};
+ghost use Rattle.rows.specs.declared.inquiries.Form.TheVariants.{PanTilt};
 
 use crate::digits::digits;
 use crate::inquiries::{Form, Inquiry};
@@ -17,8 +20,8 @@ fn shown<L: Look>(from: &L, setting: Setting) -> [u8; 4]
 
 // Pan and tilt in eight digits, or error 41 without them.
 fn answer_pan_tilt<L: Look>(from: &L, header: u8, out: &mut [u8]) -> Option<usize>
-    ensures count { result ≡ count_of (pan_tilt_answered header (L.Look.setting from.now) (L.Look.pantilt from.now)) out.old }
-    ensures sent { out.new ≡ sent_into (pan_tilt_answered header (L.Look.setting from.now) (L.Look.pantilt from.now)) out.old }
+    ensures count { result ≡ count_of (answer_of L.Look from.now header (asks Pan PanTilt)) out.old }
+    ensures sent { out.new ≡ sent_into (answer_of L.Look from.now header (asks Pan PanTilt)) out.old }
 {
     if !from.has_pan_tilt() {
         return send_at(out, 0, &[header, 0x60, 0x41, 0xff]);
@@ -31,8 +34,8 @@ fn answer_pan_tilt<L: Look>(from: &L, header: u8, out: &mut [u8]) -> Option<usiz
 /// Puts the answer to an inquiry at the front of the buffer, behind the reply's header, and tells
 /// the count; a buffer that is too short for it is left as it is.
 pub fn answer<L: Look>(from: &L, inquiry: Inquiry, header: u8, out: &mut [u8]) -> Option<usize>
-    ensures count { result ≡ count_of (answered header inquiry (L.Look.setting from.now) (L.Look.pantilt from.now)) out.old }
-    ensures sent { out.new ≡ sent_into (answered header inquiry (L.Look.setting from.now) (L.Look.pantilt from.now)) out.old }
+    ensures count { result ≡ count_of (answer_of L.Look from.now header inquiry) out.old }
+    ensures sent { out.new ≡ sent_into (answer_of L.Look from.now header inquiry) out.old }
 {
     let [p, q, r, s] = shown(from, inquiry.setting);
     match inquiry.form {

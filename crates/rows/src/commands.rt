@@ -6,11 +6,11 @@ ghost use Rattle.rows.specs.OneRow.{ByOneRow};
 
 use crate::codes::Codes::{Levels, Modes, One};
 use crate::fault::RowFault;
+use crate::find::find_row;
 use crate::operands::Operands::{
     Digit, Drive, Home, Level, Number, PanTilt, PanTiltDrive, Position, PositionAtSpeed,
 };
 use crate::operands::{Operands, Sense};
-use crate::row::find_row;
 use crate::table::{TableRow, row};
 use head::Setting::{Focus, FocusDrive, Identity, Pan, PanDrive, Power, Zoom, ZoomDrive};
 use head::{Axis, Order};

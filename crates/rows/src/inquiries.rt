@@ -5,8 +5,8 @@ ghost use Rattle.rows.specs.Inquiries.{asked, read_inquiry as inquiry_read};
 
 use crate::codes::Codes::{Levels, Modes, One};
 use crate::fault::RowFault;
+use crate::find::find_row;
 use crate::operands::OperandForm;
-use crate::row::find_row;
 use crate::table::{TableRow, row};
 use head::Setting;
 use head::Setting::{Focus, Identity, Pan, Power, Zoom};
@@ -68,6 +68,7 @@ pub const INQUIRIES: [InquiryRow; 7] = [
 
 /// Reads an inquiry behind its first byte, `09`: the place of the row that admits it, from 0, and
 /// what it asks.
+#[tactic(auto, unfolding(crate::specs::Inquiries::read_inquiry))]
 pub fn read_inquiry(body: &[u8]) -> Result<(usize, Inquiry), RowFault>
     ensures { result ≡ inquiry_read body.now }
 {

@@ -14,6 +14,7 @@ const STILL: Paces = Paces {
 };
 
 // An order of these targets, if every one is in range.
+#[tactic(auto, unfolding(crate::specs::Reading::ranged))]
 fn ranged(targets: Targets, paces: Paces) -> Option<Order>
     ensures { result ≡ ranged_by targets paces }
 {

@@ -48,9 +48,9 @@ fn asked(rest: &[u8]) -> Result<Request, PacketFault>
 pub fn read(body: &[u8]) -> Result<Request, PacketFault>
     ensures { result ≡ read_body body.now }
 {
-    match body {
-        [0x01, rest @ ..] => command(rest),
-        [0x09, rest @ ..] => asked(rest),
+    match body.split_first() {
+        Some((0x01, rest)) => command(rest),
+        Some((0x09, rest)) => asked(rest),
         _ => Err(PacketFault::UnknownBody),
     }
 }

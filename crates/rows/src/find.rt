@@ -1,0 +1,68 @@
+//! The row search: which row of a table, if any, admits a body.
+
+ghost use Rattle.std.specs.Prelude.{◌≡◌};
+ghost use Rattle.std.specs.List.{list_any};
+ghost use Rattle.std.specs.Option.{ok_or};
+ghost use Rattle.rows.specs.Search.{first_of, fault_of, found};
+ghost use Rattle.rows.specs.Admitted.{covers, admits};
+
+use crate::fault::RowFault;
+use crate::row::{Body, Row};
+
+// What a row makes of a body, if it admits it.
+fn admitted<R: Row>(row: &R, body: Body<'_>) -> Option<R::Meaning>
+    ensures { result ≡ admits R.Row body.entry row.now }
+{
+    if row.covers(body) {
+        row.read(body)
+    } else {
+        None
+    }
+}
+
+// The first row that admits a body, by its place, with what it makes of it.
+fn first<R: Row>(rows: &[R], body: Body<'_>) -> Option<(usize, R::Meaning)>
+    ensures { result ≡ first_of (admits R.Row body.entry) rows.now }
+{
+    rows.iter()
+        .enumerate()
+        .find_map(|(i, row)| admitted(row, body).map(|meaning| (i, meaning)))
+}
+
+// Whether some row has a body's category and code.
+fn known<R: Row>(rows: &[R], body: Body<'_>) -> bool
+    ensures { result ≡ list_any (covers R.Row body.entry) rows.now }
+{
+    rows.iter().any(|row| row.covers(body))
+}
+
+// What is wrong with a body that no row admits.
+fn fault<R: Row>(rows: &[R], body: Body<'_>) -> RowFault
+    ensures { result ≡ fault_of (list_any (covers R.Row body.entry) rows.now) }
+{
+    if known(rows, body) {
+        RowFault::NoSuchOperands
+    } else {
+        RowFault::NoSuchCode
+    }
+}
+
+// The first row that admits a body, or what is wrong with the body.
+fn search<R: Row>(rows: &[R], body: Body<'_>) -> Result<(usize, R::Meaning), RowFault>
+    ensures { result ≡ ok_or (first_of (admits R.Row body.entry) rows.now) (fault_of (list_any (covers R.Row body.entry) rows.now)) }
+{
+    // Not `ok_or_else`: of a closure that captures `rows` the check learns nothing, whatever it ensures.
+    match first(rows, body) {
+        Some(row) => Ok(row),
+        None => Err(fault(rows, body)),
+    }
+}
+
+/// Reads a body behind its first byte: the first row that admits it, by its place, with what it
+/// makes of it.
+pub fn find_row<R: Row>(rows: &[R], body: &[u8]) -> Result<(usize, R::Meaning), RowFault>
+    ensures { result ≡ found R.Row.has R.Row.reads rows.now body.now }
+{
+    let body = Body::of(body).ok_or(RowFault::NoSuchCode)?;
+    search(rows, body)
+}
