@@ -8,12 +8,7 @@ use Rattle.head.specs.Meaning.{Slots, Meaning, busy, put, in_use, reason, refusa
 -- each reason fails
 passes : (b₁ b₂ b₃ b₄ b₅ : Bool) → ◌≡◌ {A = ℕ} 0 (cond b₁ 1 (cond b₂ 2 (cond b₃ 3 (cond b₄ 4 (cond b₅ 5 0)))))
     → (b₁ ≡ false) × (b₂ ≡ false) × (b₃ ≡ false) × (b₄ ≡ false) × (b₅ ≡ false)
-passes true b₂ b₃ b₄ b₅ h = absurd (omega arith)
-passes false true b₃ b₄ b₅ h = absurd (omega arith)
-passes false false true b₄ b₅ h = absurd (omega arith)
-passes false false false true b₅ h = absurd (omega arith)
-passes false false false false true h = absurd (omega arith)
-passes false false false false false h = (refl, refl, refl, refl, refl)
+passes b₁ b₂ b₃ b₄ b₅ h = grind arith
 
 module _ (pantilt : Bool) (one two : Option Order) (y : ℕ) (o : Order) (admitted : 0 ≡ reason pantilt one two y o) where
   each_passes : (not (eqb y 1 || eqb y 2) ≡ false) × (is_some (cond (eqb y 1) one two) ≡ false) × (not (all_in_range (parts o.targets)) ≡ false)

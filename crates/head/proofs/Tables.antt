@@ -1,6 +1,6 @@
 -- What holds of each number below a bound, and so of every setting, by one computed test.
-use Rattle.std.proofs.Common.{◌≡◌, ℕ, zero, suc, ◌+◌, ◌<◌, Bool, true, false, cond, ◌&&◌, eqb, get_or, ℤ, Some, None, Option, sym, refl, ap, ◌∙◌, subst, ⊎_elim, arith}
-use Rattle.std.proofs.lemmas.Bool.{eqb-true, eqb-false, cases_Bool}
+use Rattle.std.proofs.Common.{◌≡◌, ℕ, zero, suc, ◌+◌, ◌<◌, Bool, true, cond, ◌&&◌, eqb, get_or, ℤ, Some, None, Option, sym, refl, ap, ◌∙◌, subst, arith}
+use Rattle.std.proofs.lemmas.Bool.{eqb-true, eqb-false}
 use Rattle.std.proofs.lemmas.Option.{get_or_from_slice_get, slice_get_within}
 use Rattle.std.specs.Option.{option_map}
 use Rattle.std.proofs.lemmas.Bool.Decides.{Decides-below_and}
@@ -52,11 +52,7 @@ looked_is f s = ap (option_map f) (numbered_is s)
 pub passed_more : (k : ℕ) (x : Setting) (taken : Bool) (w : ℤ) (old new g : Setting → ℤ) → number x ≡ k → taken ≡ true → w ≡ g x
     → ((s : Setting) → new s ≡ cond (taken && same s x) w (old s)) → ((s : Setting) → number s < k → old s ≡ g s)
     → (s : Setting) → number s < k + 1 → new s ≡ g s
-passed_more k x taken w old new g e t v is past s h =
-    ⊎_elim
-    (λ (b : same s x ≡ true). is s ∙ simp (t, b) (v ∙ ap g (sym (same_is s x b))))
-    (λ (b : same s x ≡ false). is s ∙ simp (t, b) (past s (omega (arith, eqb-false (number s) (number x) b))))
-    (cases_Bool (same s x))
+passed_more k x taken w old new g e t v is past s h = grind (arith, same_is s x, is s, past s, eqb-false (number s) (number x))
 
 -- what is the position of an axis, by the table
 abbrev tied : Setting → Option Axis → Bool

@@ -15,7 +15,7 @@ parts (Two ts) = ts
 parts (Three ts) = ts
 parts (Four ts) = ts
 
--- the target that stands first; there is one, whatever stands here in place of one
+-- the target that stands first; there always is one, so what stands here for none is never told
 abbrev pub leading : Targets → Target
 leading ts = slice_index_or (parts ts) 0 (record { setting = Power; value = pos 0 })
 
