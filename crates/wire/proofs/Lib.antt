@@ -1,2 +1,3 @@
 pub mod Forms
 pub mod Framed
+pub mod Sent

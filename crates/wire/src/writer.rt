@@ -5,6 +5,7 @@ ghost use Rattle.wire.specs.Line.{over_at};
 
 /// Puts the bytes into the buffer from a place on and tells the place behind them. A buffer that is
 /// too short for them gets none and is left as it is.
+#[tactic(auto, using(crate::proofs::Sent::over_part))]
 pub fn send_at(out: &mut [u8], at: usize, bytes: &[u8]) -> Option<usize>
     ensures next { result ≡ (if nat_le (at + length bytes.now) (length out.old) then Some (at + length bytes.now) else None) }
     ensures sent { out.new ≡ (if nat_le (at + length bytes.now) (length out.old) then over_at at bytes.now out.old else out.old) }
