@@ -8,8 +8,10 @@ use Rattle.head.specs.declared.setting.Setting.{Setting}
 use Rattle.head.proofs.Options.{no_some}
 use Rattle.head.proofs.Tables.{all_below, each_below}
 use Rattle.rows.specs.declared.fault.RowFault.{RowFault}
+use Rattle.rows.specs.declared.operands.Operands.{Operands}
+use Rattle.rows.specs.declared.table.TableRow.{TableRow}
 use Rattle.rows.specs.Codes.{pairs, coded, setting_of}
-use Rattle.rows.specs.Commands.{CommandRow, commands, read_command}
+use Rattle.rows.specs.Commands.{commands, read_command}
 use Rattle.rows.specs.OneRow.{row_at, admitted_by, ByOneRow}
 use Rattle.rows.specs.Reading.{count, reads}
 use Rattle.rows.specs.Rows.{row_has, row_reads}
@@ -18,12 +20,12 @@ use Rattle.rows.proofs.Somes.{when_some, bound}
 
 -- What a row that admits a command has of it.
 
-record Has (r : CommandRow) (k c : ℕ) (os : List ℕ) : Type 0 where
+record Has (r : TableRow Operands) (k c : ℕ) (os : List ℕ) : Type 0 where
   category : k ≡ r.category
   code : is_some (coded (pairs r.codes) c) ≡ true
   operands : length os ≡ count r.form
 
-has : (r : CommandRow) (k c : ℕ) (os : List ℕ) (o : Order) → meaning row_has (row_reads reads) k c os r ≡ Some o → Has r k c os
+has : (r : TableRow Operands) (k c : ℕ) (os : List ℕ) (o : Order) → meaning row_has (row_reads reads) k c os r ≡ Some o → Has r k c os
 has r k c os o e =
     let (h, m) = when_some (row_has r k c) (row_reads reads r c os) e in
     let (x, y) = and_parts (eqb k r.category) (is_some (setting_of r.codes c)) h in
@@ -44,10 +46,10 @@ both_common (p ∷ ps) qs c h g =
     (λ (e : eqb c p.0 ≡ false). or_right (is_some (coded qs p.0)) (common ps qs) (both_common ps qs c (simp e at h) g))
     (cases_Bool (eqb c p.0))
 
-alike : CommandRow → CommandRow → Bool
+alike : TableRow Operands → TableRow Operands → Bool
 alike r q = eqb r.category q.category && common (pairs r.codes) (pairs q.codes) && eqb (count r.form) (count q.form)
 
-alike_both : (r q : CommandRow) (k c : ℕ) (os : List ℕ) → Has r k c os → Has q k c os → alike r q ≡ true
+alike_both : (r q : TableRow Operands) (k c : ℕ) (os : List ℕ) → Has r k c os → Has q k c os → alike r q ≡ true
 unfolding alike
 alike_both r q k c os h g =
     and_from (eqb r.category q.category && common (pairs r.codes) (pairs q.codes)) (eqb (count r.form) (count q.form))

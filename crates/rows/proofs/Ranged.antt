@@ -17,8 +17,9 @@ use Rattle.rows.specs.declared.operands.Operands.TheVariants.{Digit, Drive, Posi
 use Rattle.rows.specs.declared.operands.Sense.TheVariants.{Up, Down}
 use Rattle.rows.specs.declared.request.Request.{Request}
 use Rattle.rows.specs.declared.request.Request.TheVariants.{Command, Ask}
+use Rattle.rows.specs.declared.table.TableRow.{TableRow}
 use Rattle.rows.specs.Codes.{setting_of}
-use Rattle.rows.specs.Commands.{CommandRow, read_command}
+use Rattle.rows.specs.Commands.{read_command}
 use Rattle.rows.specs.Digits.{word}
 use Rattle.rows.specs.Inquiries.{read_inquiry}
 use Rattle.rows.specs.OneRow.{row_at, admitted_by, ReadByOne}
@@ -74,7 +75,7 @@ means_in_range Home s os = ranged_in_range _ _
 reads_in_range : (f : Operands) (s : Setting) (os : List ℕ) → InRange (reads f s os)
 reads_in_range f s os = cond_in_range (eqb (length os) (count f)) (means f s os) (means_in_range f s os)
 
-row_in_range : (r : CommandRow) (k c : ℕ) (os : List ℕ) → InRange (meaning row_has (row_reads reads) k c os r)
+row_in_range : (r : TableRow Operands) (k c : ℕ) (os : List ℕ) → InRange (meaning row_has (row_reads reads) k c os r)
 row_in_range r k c os = cond_in_range (row_has r k c) _ (bind_in_range (setting_of r.codes c) _ (λ s. reads_in_range r.form s os))
 
 admitted_in_range : (i : ℕ) (body : List ℕ) → InRange (admitted_by i body)

@@ -13,11 +13,7 @@ use Rattle.rows.specs.Reading.{reads}
 use Rattle.rows.specs.Rows.{row, row_has, row_reads}
 use Rattle.rows.specs.Search.{found}
 
--- a row that makes orders
-abbrev pub CommandRow : Type 0
-CommandRow = TableRow Operands
-
-abbrev pub commands : List CommandRow
+abbrev pub commands : List (TableRow Operands)
 commands =
     row 0x04 (One 0x00 Power) Digit
     ∷ row 0x04 (One 0x07 ZoomDrive) (Drive Up)

@@ -18,10 +18,7 @@ asks s f = record { setting = s; form = f }
 abbrev pub asked : Form → Setting → List ℕ → Option Inquiry
 asked f s os = cond (length os == 0) (Some (asks s f)) None
 
-abbrev pub InquiryRow : Type 0
-InquiryRow = TableRow Form
-
-abbrev pub inquiries : List InquiryRow
+abbrev pub inquiries : List (TableRow Form)
 inquiries =
     row 0x04 (One 0x00 Power) Digit
     ∷ row 0x04 (One 0x47 Zoom) Number

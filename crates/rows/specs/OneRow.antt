@@ -4,14 +4,16 @@ use Rattle.head.specs.declared.order.Order.{Order}
 use Rattle.head.specs.declared.setting.Setting.TheVariants.{Pan}
 use Rattle.rows.specs.declared.codes.Codes.TheVariants.{One}
 use Rattle.rows.specs.declared.fault.RowFault.{RowFault}
+use Rattle.rows.specs.declared.operands.Operands.{Operands}
 use Rattle.rows.specs.declared.operands.Operands.TheVariants.{Home}
-use Rattle.rows.specs.Commands.{CommandRow, commands}
+use Rattle.rows.specs.declared.table.TableRow.{TableRow}
+use Rattle.rows.specs.Commands.{commands}
 use Rattle.rows.specs.Reading.{reads}
 use Rattle.rows.specs.Rows.{row_has, row_reads}
 use Rattle.rows.specs.Search.{meaning}
 
 -- the command row at a place, from 0; past the last, the last
-abbrev pub row_at : ℕ → CommandRow
+abbrev pub row_at : ℕ → TableRow Operands
 row_at i = slice_index_or commands i (record { category = 0x06; codes = One 0x04 Pan; form = Home })
 
 -- the order that the row at a place makes of a command, behind its first byte, if it admits it

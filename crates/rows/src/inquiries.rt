@@ -35,7 +35,7 @@ pub struct Inquiry {
 impl OperandForm for Form {
     type Meaning = Inquiry;
 
-    ghost reads = { asked };
+    ghost makes = { asked };
 
     fn read(&self, setting: Setting, operands: &[u8]) -> Option<Inquiry> {
         operands.is_empty().then_some(Inquiry {

@@ -9,11 +9,11 @@ use head::{Axis, Setting};
 pub trait OperandForm {
     type Meaning: Drop;
 
-    ghost reads: { Self → S → List ℕ → Option Self.Meaning };
+    ghost makes: { Self → S → List ℕ → Option Self.Meaning };
 
     /// What operands mean, where their code stands for a setting; nothing if they have another form.
     fn read(&self, setting: Setting, operands: &[u8]) -> Option<Self::Meaning>
-        ensures { result ≡ reads self.now setting operands.now };
+        ensures { result ≡ makes self.now setting operands.now };
 }
 
 /// Which way a drive's operands point.

@@ -188,7 +188,7 @@ fn home() -> Option<Order>
 impl OperandForm for Operands {
     type Meaning = Order;
 
-    ghost reads = { reads };
+    ghost makes = { reads };
 
     fn read(&self, setting: Setting, operands: &[u8]) -> Option<Order> {
         match (*self, operands) {

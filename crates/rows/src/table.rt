@@ -14,7 +14,7 @@ pub struct TableRow<F> {
     pub form: F,
 }
 
-// A row on one line.
+// A row on one line; a constant may not call a function that makes it.
 macro_rules! row {
     ($category:expr, $codes:expr, $form:expr) => {
         TableRow {
@@ -32,7 +32,7 @@ impl<F: OperandForm> Row for TableRow<F> {
 
     ghost has = { row_has };
 
-    ghost reads = { row_reads F.reads };
+    ghost reads = { row_reads F.makes };
 
     fn covers(&self, body: Body<'_>) -> bool {
         body.category == self.category && self.codes.setting(body.code).is_some()
