@@ -7,7 +7,7 @@ use rows::PacketFault;
 use wire::{FaultCode, FramingFault, Layer};
 
 /// What is wrong, by the layer that finds it.
-#[derive(Clone, Copy)]
+#[derive(Clone, Copy, Debug, PartialEq, Eq)]
 pub enum Cause {
     /// Fault 1: the buffer has less than 16 bytes. The call did nothing.
     ShortBuffer,
@@ -18,7 +18,7 @@ pub enum Cause {
 }
 
 /// A fault, and how many bytes were sent with it.
-#[derive(Clone, Copy)]
+#[derive(Clone, Copy, Debug, PartialEq, Eq)]
 pub struct Fault {
     pub cause: Cause,
     pub sent: usize,

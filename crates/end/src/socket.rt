@@ -17,7 +17,7 @@ use rules::powers_on;
 ///      completion 5Y, 6Y 04 (cancelled or displaced),
 ///      6Y 41 (jammed), or a clearing
 /// ```
-#[derive(Clone, Copy)]
+#[derive(Clone, Copy, Debug, PartialEq, Eq)]
 pub struct Sockets {
     pub one: Option<Order>,
     pub two: Option<Order>,
@@ -31,7 +31,7 @@ pub struct OpenSockets {
 }
 
 /// One of the two.
-#[derive(Clone, Copy)]
+#[derive(Clone, Copy, Debug, PartialEq, Eq)]
 pub(crate) enum Which {
     One,
     Two,

@@ -7,7 +7,7 @@ ghost use Rattle.head.specs.Orders.{parts, all_in_range};
 use head::Order;
 
 /// An order whose targets are in range, with 1 to 1,000 ticks left.
-#[derive(Clone, Copy)]
+#[derive(Clone, Copy, Debug, PartialEq, Eq)]
 pub struct Job {
     pub order: Order,
     pub left: u16,

@@ -6,7 +6,7 @@ ghost use Rattle.rows.specs.Codes.{coded as coded_by, setting_of};
 use head::Setting;
 
 /// Which codes a row has.
-#[derive(Clone, Copy)]
+#[derive(Clone, Copy, Debug, PartialEq, Eq)]
 pub enum Codes {
     /// One code, for one setting.
     One(u8, Setting),

@@ -1,7 +1,7 @@
 //! What is wrong with a body, by the layer that finds it.
 
 /// Found by the row search.
-#[derive(Clone, Copy)]
+#[derive(Clone, Copy, Debug, PartialEq, Eq)]
 pub enum RowFault {
     /// Fault 6: no row of its kind has that category and code.
     NoSuchCode,
@@ -10,7 +10,7 @@ pub enum RowFault {
 }
 
 /// Found by the packet layer, or passed on by it whole.
-#[derive(Clone, Copy)]
+#[derive(Clone, Copy, Debug, PartialEq, Eq)]
 pub enum PacketFault {
     /// Fault 5: the body is neither a command nor an inquiry.
     UnknownBody,

@@ -25,7 +25,7 @@ pub enum Form {
 }
 
 /// What is asked: a setting, and the form of the answer.
-#[derive(Clone, Copy)]
+#[derive(Clone, Copy, Debug, PartialEq, Eq)]
 pub struct Inquiry {
     pub setting: Setting,
     pub form: Form,

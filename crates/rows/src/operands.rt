@@ -26,7 +26,7 @@ pub enum Sense {
 }
 
 /// What stands behind a command's category and code.
-#[derive(Clone, Copy)]
+#[derive(Clone, Copy, Debug, PartialEq, Eq)]
 pub enum Operands {
     /// `0p`: the setting to p.
     Digit,

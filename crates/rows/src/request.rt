@@ -14,7 +14,7 @@ use head::Order;
 use wire::{FaultCode, Layer};
 
 /// What a packet for this end asks for.
-#[derive(Clone, Copy)]
+#[derive(Clone, Copy, Debug, PartialEq, Eq)]
 pub enum Request {
     /// A command: the place of its row, from 0, and the order that it is.
     Command(usize, Order),

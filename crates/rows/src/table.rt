@@ -7,7 +7,7 @@ use crate::operands::OperandForm;
 use crate::row::{Body, Row};
 
 /// A row of a table, by the form of its operands.
-#[derive(Clone, Copy)]
+#[derive(Clone, Copy, Debug, PartialEq, Eq)]
 pub struct TableRow<F> {
     pub category: u8,
     pub codes: Codes,
