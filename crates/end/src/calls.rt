@@ -14,11 +14,11 @@ ghost use Rattle.wire.specs.Framing.{bytes_of};
 use crate::call::Call;
 use crate::end::End;
 use crate::fault::{Cause, Fault};
-use crate::sending::{ROOM, Sent};
+use crate::sending::{ROOM, both, packet_of, put};
 use crate::socket::{OpenSockets, Sockets, Which};
 use head::{Ending, Head, Look, Order};
 use rules::{Problem, Reply};
-use wire::{Framer, Packet};
+use wire::{Bytes, Framer, Packet};
 
 // Whether the buffer has room for all that a call sends.
 fn room(out: &[u8]) -> Result<(), Fault>
@@ -51,17 +51,15 @@ fn settled(ending: Option<Ending>, socket: Option<Order>) -> Option<Order>
 }
 
 // What a socket tells of its ending, if it ended.
-fn ended(header: u8, which: Which, ending: Option<Ending>) -> Sent
+fn ended(header: u8, which: Which, ending: Option<Ending>) -> Bytes
     ensures told { result ≡ ended_by header (number which) ending }
     ensures few { length result ≤ 4 }
 {
     let number = which.number();
     match ending {
-        None => Sent::nothing(),
-        Some(Ending::Done) => Sent::reply(header, Reply::Completion(number)),
-        Some(Ending::Jammed) => {
-            Sent::reply(header, Reply::Error(number, Problem::NotExecutable))
-        }
+        None => Bytes::new(),
+        Some(Ending::Done) => packet_of(header, Reply::Completion(number)),
+        Some(Ending::Jammed) => { packet_of(header, Reply::Error(number, Problem::NotExecutable)) }
     }
 }
 
@@ -89,10 +87,10 @@ impl<H: Head> End<H> {
     {
         let header = self.own_header();
         match self.meet(packet) {
-            Ok(sent) => Ok(sent.put(out)),
+            Ok(sent) => Ok(put(sent, out)),
             Err(fault) => Err(Fault {
                 cause: Cause::Packet(fault),
-                sent: Sent::reply(header, Reply::Error(0, Problem::Syntax)).put(out),
+                sent: put(packet_of(header, Reply::Error(0, Problem::Syntax)), out),
             }),
         }
     }
@@ -124,7 +122,7 @@ impl<H: Head> End<H> {
         let header = self.own_header();
         let one = ended(header, Which::One, endings.one);
         let two = ended(header, Which::Two, endings.two);
-        Ok(one.and(two).put(out))
+        Ok(put(both(one, two), out))
     }
 
     /// Takes one byte from the line. What it sends stands at the front of the buffer; the answer is

@@ -10,12 +10,12 @@ ghost use Rattle.rows.specs.Requests.{read_body};
 ghost use Rattle.wire.specs.Framing.{bytes_of};
 
 use crate::end::End;
-use crate::sending::Sent;
+use crate::sending::{answer_to, both, packet_of, sent};
 use crate::socket::Which;
 use head::{Head, Look, Order};
 use rows::{Inquiry, PacketFault, Request, read};
 use rules::{Problem, Reply, Rule, forbidden};
-use wire::Packet;
+use wire::{Bytes, Packet};
 
 impl<H: Head> End<H> {
     /// The header of the end's own packets, X0.
@@ -26,14 +26,14 @@ impl<H: Head> End<H> {
     }
 
     // A reply of the end's own.
-    fn reply(&self, reply: Reply) -> Sent
+    fn reply(&self, reply: Reply) -> Bytes
         ensures { result ≡ own self.now.address reply }
     {
-        Sent::reply(self.own_header(), reply)
+        packet_of(self.own_header(), reply)
     }
 
     // A command for a socket, with the other's displaced where it names a common setting.
-    fn accept(&mut self, which: Which, order: Order) -> Sent
+    fn accept(&mut self, which: Which, order: Order) -> Bytes
         ensures { Sends (state self.old) (taken_by self.old.address self.old.sockets (number which) order) result (state self.new) }
     {
         let other = which.other();
@@ -43,12 +43,12 @@ impl<H: Head> End<H> {
             return taken;
         }
         self.displace_command(which, order);
-        self.reply(Reply::Error(other.number(), Problem::Cancelled))
-            .and(taken)
+        let displaced = self.reply(Reply::Error(other.number(), Problem::Cancelled));
+        both(displaced, taken)
     }
 
     // An admitted command.
-    fn command(&mut self, order: Order) -> Sent
+    fn command(&mut self, order: Order) -> Bytes
         ensures { Sends (state self.old) (commanded_by self.old.address (state self.old).head self.old.sockets order) result (state self.new) }
     {
         if self.sockets.full() {
@@ -61,7 +61,7 @@ impl<H: Head> End<H> {
     }
 
     // A cancel of the command in the socket with this number.
-    fn cancel(&mut self, number: u8) -> Sent
+    fn cancel(&mut self, number: u8) -> Bytes
         ensures { Sends (state self.old) (cancelled_by self.old.address self.old.sockets number) result (state self.new) }
     {
         match Which::numbered(number) {
@@ -73,17 +73,17 @@ impl<H: Head> End<H> {
         }
     }
 
-    fn serve(&mut self, request: Request) -> Sent
+    fn serve(&mut self, request: Request) -> Bytes
         ensures { Sends (state self.old) (requested_by self.old.address (state self.old).head self.old.sockets (Ok request)) result (state self.new) }
     {
         match request {
             Request::Command(_, order) => self.command(order),
-            Request::Ask(inquiry) => Sent::answer(&self.head, inquiry, self.own_header()),
+            Request::Ask(inquiry) => answer_to(&self.head, inquiry, self.own_header()),
         }
     }
 
     // A body that the rows read, or say what is wrong with.
-    fn request(&mut self, body: &[u8]) -> Result<Sent, PacketFault>
+    fn request(&mut self, body: &[u8]) -> Result<Bytes, PacketFault>
         ensures { Meets (state self.old) (requested_by self.old.address (state self.old).head self.old.sockets (read_body body.now)) result (state self.new) }
     {
         let request = read(body)?;
@@ -92,21 +92,21 @@ impl<H: Head> End<H> {
 
     /// A whole packet, by the first rule of the ring that it meets: what it has the end send, or what
     /// is wrong with its body.
-    pub(crate) fn meet(&mut self, packet: &Packet) -> Result<Sent, PacketFault>
+    pub(crate) fn meet(&mut self, packet: &Packet) -> Result<Bytes, PacketFault>
         ensures { Meets (state self.old) (met_by self.old.address (state self.old).head self.old.sockets (bytes_of packet.now) (rule_of self.old.address (bytes_of packet.now))) result (state self.new) }
     {
         match Rule::of(self.address, packet) {
-            Rule::TakenOff => Ok(Sent::nothing()),
+            Rule::TakenOff => Ok(Bytes::new()),
             Rule::AddressSet(w) => {
                 self.clear();
                 self.address = w;
-                Ok(Sent::of(&[0x88, 0x30, w + 1, 0xff]))
+                Ok(sent(&[0x88, 0x30, w + 1, 0xff]))
             }
             Rule::ClearedForAll => {
                 self.clear();
-                Ok(Sent::of(packet.bytes()))
+                Ok(sent(packet.bytes()))
             }
-            Rule::SentOn => Ok(Sent::of(packet.bytes())),
+            Rule::SentOn => Ok(sent(packet.bytes())),
             Rule::Cleared => {
                 self.clear();
                 Ok(self.reply(Reply::Completion(0)))

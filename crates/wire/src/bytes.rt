@@ -1,12 +1,27 @@
-//! Up to 16 bytes, in memory of their own, so that to keep one more never fails for want of memory.
+//! Up to 16 bytes in memory of their own, so that nothing on the line can fail for want of memory.
 
-ghost use Rattle.std.specs.Prelude.{◌≡◌, ◌<◌, ◌≤◌, [], ◌∷◌, ◌++◌, length};
+ghost use Rattle.std.specs.Prelude.{◌≡◌, ◌+◌, ◌<◌, ◌≤◌, [], ◌∷◌, ◌++◌, length, if◌then◌else◌, is_ok, nat_le};
 
+use crate::writer::send_at;
+use std::error::Error;
+use std::fmt;
 use std::marker::Model;
+
+/// There is no room for so many bytes.
+#[derive(Clone, Copy, Debug, PartialEq, Eq)]
+pub struct Full;
+
+impl fmt::Display for Full {
+    fn fmt<W: fmt::Write>(&self, f: &mut fmt::Formatter<W>) -> fmt::Result {
+        f.write_str("no room for so many bytes")
+    }
+}
+
+impl Error for Full {}
 
 /// At most 16 bytes in order. The room behind them holds 0, so that equal lists are equal values.
 #[derive(Clone, Copy, Debug, PartialEq, Eq)]
-pub(crate) struct Bytes {
+pub struct Bytes {
     room: [u8; 16],
     len: usize,
 }
@@ -28,7 +43,7 @@ impl Model for Bytes {
 
 impl Bytes {
     /// No byte.
-    pub(crate) fn new() -> Bytes
+    pub fn new() -> Bytes
         ensures { result ≡ [] }
     {
         Bytes {
@@ -44,7 +59,8 @@ impl Bytes {
         self.len
     }
 
-    pub(crate) fn as_slice(&self) -> &[u8]
+    /// The bytes, first to last.
+    pub fn as_slice(&self) -> &[u8]
         ensures { result.now ≡ self.now }
     {
         &self.room[..self.len]
@@ -56,5 +72,13 @@ impl Bytes {
     {
         self.room[self.len] = byte;
         self.len += 1;
+    }
+    /// Keeps more bytes behind these: all of them, or none where they are more than there is room for.
+    pub fn extend_from_slice(&mut self, more: &[u8]) -> Result<(), Full>
+        ensures fits { is_ok result ≡ nat_le (length self.old + length more.now) 16 }
+        ensures kept { self.new ≡ (if nat_le (length self.old + length more.now) 16 then self.old ++ more.now else self.old) }
+    {
+        self.len = send_at(&mut self.room, self.len, more).ok_or(Full)?;
+        Ok(())
     }
 }

@@ -15,6 +15,7 @@ pub mod theorems;
 mod words;
 mod writer;
 
+pub use bytes::{Bytes, Full};
 pub use fault::{FaultCode, Layer};
 pub use framer::{Framer, FramingFault};
 pub use packet::Packet;
