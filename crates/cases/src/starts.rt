@@ -17,6 +17,7 @@ fn to(setting: Setting, value: i32) -> Target {
     Target { setting, value }
 }
 
+// Refusals have no equality to be compared by, and so their numbers are.
 fn number(r: Result<(), Refusal>) -> u8 {
     match r {
         Ok(()) => 0,

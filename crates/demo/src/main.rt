@@ -27,6 +27,7 @@ fn to(setting: Setting, value: i32) -> Targets {
     Targets::One(Target { setting, value })
 }
 
+// This room's own words, with the number: a Display would want a type of the room's around it.
 fn text(refusal: Refusal) -> &'static str {
     match refusal {
         Refusal::NoSuchSlot => "1, there is no such slot",

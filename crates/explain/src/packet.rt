@@ -39,7 +39,7 @@ fn explain_request(rt: &impl Print, body: &[u8]) -> io::Result<()> {
 }
 
 // The body of a broadcast.
-#[derive(Clone, Copy)]
+#[derive(Clone, Copy, Debug, PartialEq, Eq)]
 struct Broadcast<'a>(&'a [u8]);
 
 impl fmt::Display for Broadcast<'_> {
@@ -66,7 +66,7 @@ fn error_text(code: u8) -> &'static str {
 }
 
 // The body of what a camera replies.
-#[derive(Clone, Copy)]
+#[derive(Clone, Copy, Debug, PartialEq, Eq)]
 struct Reply<'a>(&'a [u8]);
 
 impl fmt::Display for Reply<'_> {

@@ -1,5 +1,5 @@
 //! How values of other crates are said in words.
 
 /// A value, to be said in words.
-#[derive(Clone, Copy)]
+#[derive(Clone, Copy, Debug, PartialEq, Eq)]
 pub struct InWords<T>(pub T);
