@@ -23,6 +23,7 @@ pub const USUAL: Room = Room { len: 16 };
 /// A line that is understood.
 #[derive(Debug, PartialEq, Eq, Drop)]
 pub enum Line {
+    /// Understood too: it makes no call, where a text that is no line is answered.
     Blank,
     Head(Kind),
     Byte(u8, Room),

@@ -55,6 +55,7 @@ fn ticks<H: Head>(rt: &impl Print, end: &mut End<H>, times: u32, room: Room) -> 
     tell_each(rt, room, 0..times, |_, out| end.tick(out))
 }
 
+// Two answers side by side; words for them alone need no type.
 fn open(rt: &impl Print, sockets: OpenSockets) -> io::Result<()> {
     let text = match (sockets.one, sockets.two) {
         (true, true) => "1 2",

@@ -40,7 +40,7 @@ fn steps(rt: HostRuntime) -> Result<(), Fail> {
             assert!(rt; last.one.is_none());
             last = dome.tick();
         }
-        assert!(rt; matches!(last.one, Some(Ending::Done)));
+        assert_eq!(rt; last.one, Some(Ending::Done));
         assert_eq!(rt; dome.look(setting.number()), Some(target));
     }
     Ok(())
@@ -73,8 +73,8 @@ fn drives(rt: HostRuntime) -> Result<(), Fail> {
         let mut stalled = Dome::new(true);
         assert!(rt; dome.start(2, order).is_ok() && stalled.start(2, order).is_ok());
         // the drive has its value once the order is done, and moves from the next tick on
-        assert!(rt; matches!(dome.tick().two, Some(Ending::Done)));
-        assert!(rt; matches!(stalled.tick().two, Some(Ending::Done)));
+        assert_eq!(rt; dome.tick().two, Some(Ending::Done));
+        assert_eq!(rt; stalled.tick().two, Some(Ending::Done));
         assert_eq!(rt; dome.look(position.number()), Some(0));
         dome.tick();
         stalled.tick();
@@ -103,7 +103,7 @@ fn a_stalled_dome_jams(rt: HostRuntime) -> Result<(), Fail> {
     let mut dome = Dome::new(true);
     assert!(rt; dome.start(1, order).is_ok());
     assert!(rt; dome.tick().one.is_none());
-    assert!(rt; matches!(dome.tick().one, Some(Ending::Jammed)));
+    assert_eq!(rt; dome.tick().one, Some(Ending::Jammed));
     assert!(rt; dome.look(1) == Some(0) && dome.look(15) == Some(3));
     let home = Target {
         setting: Setting::Zoom,
@@ -111,7 +111,7 @@ fn a_stalled_dome_jams(rt: HostRuntime) -> Result<(), Fail> {
     };
     let order = order_of(Targets::Two([home, mute]), paces)?;
     assert!(rt; dome.start(1, order).is_ok());
-    assert!(rt; matches!(dome.tick().one, Some(Ending::Done)));
+    assert_eq!(rt; dome.tick().one, Some(Ending::Done));
     assert_eq!(rt; dome.look(15), Some(2));
     Ok(())
 }

@@ -17,6 +17,8 @@ fn to(setting: Setting, value: i32) -> Target {
     Target { setting, value }
 }
 
+// The table has the reasons by number, as docs/heads.md has them, so that the numbers are tried too;
+// 0 is an order that was taken.
 fn number(r: Result<(), Refusal>) -> u8 {
     r.map_or_else(Refusal::number, |()| 0)
 }

@@ -39,7 +39,7 @@ fn explain_request(rt: &impl Print, body: &[u8]) -> io::Result<()> {
 }
 
 // The body of a broadcast.
-#[derive(Clone, Copy)]
+#[derive(Clone, Copy, Debug, PartialEq, Eq)]
 struct Broadcast<'a>(&'a [u8]);
 
 impl fmt::Display for Broadcast<'_> {
@@ -79,7 +79,7 @@ impl fmt::Display for InWords<Reply> {
 }
 
 // The body of what a camera replies. Other makes have errors and answers of their own.
-#[derive(Clone, Copy)]
+#[derive(Clone, Copy, Debug, PartialEq, Eq)]
 struct Replied<'a>(&'a [u8]);
 
 impl fmt::Display for Replied<'_> {

@@ -4,7 +4,7 @@ use std::{fmt, io};
 use wire::FaultCode;
 
 /// A value, to be said in words.
-#[derive(Clone, Copy)]
+#[derive(Clone, Copy, Debug, PartialEq, Eq)]
 pub struct InWords<T>(pub T);
 
 /// Writes a fault, by its code and its own words.

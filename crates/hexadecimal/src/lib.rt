@@ -24,7 +24,7 @@ pub fn byte(word: &str) -> Option<u8>
 }
 
 /// Bytes to be shown, in upper case and separated by spaces.
-#[derive(Clone, Copy)]
+#[derive(Clone, Copy, Debug, PartialEq, Eq)]
 pub struct Hex<'a>(pub &'a [u8]);
 
 impl fmt::Display for Hex<'_> {
