@@ -6,7 +6,11 @@ use Rattle.std.proofs.lemmas.Bool.{and_parts}
 use Rattle.head.specs.declared.setting.Axis.{Axis}
 use Rattle.head.specs.declared.setting.Axis.TheVariants.{Zoom, Focus, Pan, Tilt}
 use Rattle.head.specs.Settings.{in_range, drive}
-use Rattle.heads.specs.Motion.{Gentle}
+
+-- the bounds of every value of every drive
+pub record Gentle (d : ℤ) : Type 0 where
+  pub low : negsuc 23 ≤ℤ d
+  pub high : d ≤ℤ pos 24
 
 bounded : (low high d : ℤ) → negsuc 23 ≤ℤ low → high ≤ℤ pos 24 → (le_z low d && le_z d high) ≡ true → Gentle d
 bounded low high d l h e =

@@ -3,6 +3,7 @@ use Rattle.std.proofs.Common.{◌≡◌, ℕ, ◌-◌, Bool, true, false, cond, 
 use lib.Signed.{le_z}
 use Rattle.std.proofs.lemmas.Int.{ints, clamps}
 use Rattle.std.proofs.lemmas.Bool.{and_parts, cond_both, ltb-true, ltb-false}
+use Rattle.std.proofs.Math.Bool.{and_comm}
 use Rattle.std.specs.Int.{int_min, int_max}
 use Rattle.head.specs.declared.order.Order.{Order}
 use Rattle.head.specs.declared.outcome.Ending.{Ending}
@@ -21,6 +22,7 @@ use Rattle.heads.specs.declared.motion.Motion.TheVariants.{AtOnce, Stepwise, Sta
 use Rattle.heads.specs.Motion.{moved, driven, unit, held}
 use Rattle.heads.specs.Exact.{is_at, there, arrived, told, rest, pulled_to, pulled, unnamed, or_else, next, Ran}
 use Rattle.heads.specs.Rigs.{arrives, foretold}
+use Rattle.heads.proofs.Axes.{each_of}
 use Rattle.heads.proofs.Moves.{moved_between}
 
 -- Drives.
@@ -55,16 +57,9 @@ is_there v t h = let (p, q) = and_parts (le_z v t) (le_z t v) h in omega (arith,
 
 -- an order that is done has its positions at their targets
 done_arrived : (late all : Bool) → Some Done ≡ cond late None (Some (cond all Done Jammed)) → all ≡ true
-done_arrived true all e = no_some (sym e)
+done_arrived true all e = cc
 done_arrived false true e = refl
-done_arrived false false e = let z : ◌≡◌ {A = ℕ} 0 1 = cc in absurd (omega arith)
-
-arrived_there : (o : Order) (f : Setting → ℤ) (a : Axis) → arrived o f ≡ true → there o f a ≡ true
-arrived_there o f a h =
-    let (p, t) = and_parts (there o f Zoom && there o f Focus && there o f Pan) (there o f Tilt) h in
-    let (q, n) = and_parts (there o f Zoom && there o f Focus) (there o f Pan) p in
-    let (z, x) = and_parts (there o f Zoom) (there o f Focus) q in
-    elim a as (λ (b : Axis). there o f b ≡ true) [ Zoom ↦ z | Focus ↦ x | Pan ↦ n | Tilt ↦ t ]
+done_arrived false false e = cc
 
 -- a slot over a tick
 slot_ticked : (b : Slot) (f : Setting → ℤ) → Timed b → SlotTicked b (told b f) (rest b)
@@ -83,7 +78,7 @@ pulled_lawful : (m : Motion) (o : Order) (n : ℕ) (x : Option Axis) (e : Option
 pulled_lawful m o n (Some a) None f f' s t i w g v = rw v (moved_between m o.paces a (f s) t)
 pulled_lawful m o n (Some a) (Some Jammed) f f' s t i w g v = rw v (moved_between m o.paces a (f s) t)
 pulled_lawful m o n (Some a) (Some Done) f f' s t i w g v =
-    let h = arrived_there o f' a (done_arrived (ltb 1 n) (arrived o f') g) in
+    let h = each_of (there o f') (done_arrived (ltb 1 n) (arrived o f') g) a in
     let k = subst (λ (z : Setting). is_at (f' z) (wants (parts o.targets) z) ≡ true) (position_is s a i) h in
     is_there (f' s) t (simp w at k)
 pulled_lawful m o n None None f f' s t i w g v = v
@@ -111,8 +106,8 @@ Apart a b = (s : Setting) → (is_some (wanted a s) && is_some (wanted b s)) ≡
 
 other_none : (x y : Option ℤ) (t : ℤ) → (is_some x && is_some y) ≡ false → y ≡ Some t → x ≡ None
 other_none None y t h e = refl
-other_none (Some s) None t h e = no_some e
-other_none (Some s) (Some u) t h e = let z : ◌≡◌ {A = ℕ} 0 1 = cc in absurd (omega arith)
+other_none (Some s) None t h e = cc
+other_none (Some s) (Some u) t h e = cc
 
 pub strict : (motion : Motion) (m m' : Meaning) (e : Endings) → ((s : Setting) → in_range s (m.setting s) ≡ true) → Timed m.slots.one → Timed m.slots.two
     → Apart m.slots.one m.slots.two → Ran motion m e m' → Strict m e m'
@@ -188,14 +183,8 @@ left_apart idle s x h = h
 left_apart (busy o n) s x h =
     cond_both (ltb 1 n) (busy o (n - 1)) idle (λ y. (is_some (wanted y s) && is_some x) ≡ false) (λ _. h) (λ _. refl)
 
-and_comm : (x y : Bool) → (x && y) ≡ false → (y && x) ≡ false
-and_comm true true h = h
-and_comm true false h = refl
-and_comm false true h = refl
-and_comm false false h = refl
-
 pub apart_sym : (a b : Slot) → Apart a b → Apart b a
-apart_sym a b h s = and_comm (is_some (wanted a s)) (is_some (wanted b s)) (h s)
+apart_sym a b h s = and_comm (is_some (wanted b s)) (is_some (wanted a s)) ∙ h s
 
 pub rest_apart : (a b : Slot) → Apart a b → Apart (rest a) (rest b)
 rest_apart a b h =

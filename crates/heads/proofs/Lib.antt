@@ -1,3 +1,5 @@
+pub mod Options
+pub mod Axes
 pub mod Spans
 pub mod Drives
 pub mod Moves
@@ -5,5 +7,3 @@ pub mod Lawful
 pub mod Apart
 pub mod Rigs
 pub mod Punctual
-pub mod Options
-pub mod Axes

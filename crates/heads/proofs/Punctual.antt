@@ -1,9 +1,9 @@
 -- A dome that is not stalled keeps its orders in time.
-use Rattle.std.proofs.Common.{◌≡◌, ℕ, ◌+◌, ◌-◌, ◌*◌, ◌/◌, ◌%◌, ◌<◌, ◌≤◌, min, Bool, true, false, ◌&&◌, eqb, ltb, ℤ, ◌-ℤ◌, nat_abs, Some, None, Option, sym, refl, ap, ◌∙◌, ⊎_elim, le-add_right, mul-le-mul_right, mod-lt, add-mul, one-mul, arith}
+use Rattle.std.proofs.Common.{◌≡◌, ℕ, ◌+◌, ◌-◌, ◌*◌, ◌/◌, ◌%◌, ◌<◌, ◌≤◌, min, Bool, true, false, eqb, ltb, ℤ, ◌-ℤ◌, nat_abs, Some, None, Option, sym, refl, ap, ◌∙◌, ⊎_elim, le-add_right, mul-le-mul_right, mod-lt, add-mul, one-mul, arith}
 use lib.Signed.{le_z}
 use Rattle.std.proofs.lemmas.Nat.{div-add-mod'}
 use Rattle.std.proofs.lemmas.Int.{ints, clamps}
-use Rattle.std.proofs.lemmas.Bool.{and_parts, and_from, leb-true, le-leb, ltb-false, cases_eq, cond_both}
+use Rattle.std.proofs.lemmas.Bool.{and_from, leb-true, le-leb, ltb-false, cases_eq, cond_both}
 use Rattle.head.specs.declared.order.Order.{Order}
 use Rattle.head.specs.declared.outcome.Endings.{Endings}
 use Rattle.head.specs.declared.setting.Axis.{Axis}
@@ -18,24 +18,10 @@ use Rattle.heads.specs.declared.rig.Rig.{Rig}
 use Rattle.heads.specs.Rigs.{means}
 use Rattle.heads.proofs.Rigs.{job_timed}
 use Rattle.heads.specs.declared.motion.Motion.TheVariants.{Stepwise}
+use Rattle.heads.proofs.Axes.{each_of, all_of}
 use Rattle.heads.proofs.Lawful.{Moved, Apart, moved_one, moved_two}
 use Rattle.heads.proofs.Spans.{moves}
 use Rattle.heads.specs.Punctual.{in_time, punctual, OnTime, is_jammed}
-
--- a fact of each axis, and the four together
-abbrev Each : (Axis → Bool) → Type 0
-Each p = (a : Axis) → p a ≡ true
-
-each_of : (p : Axis → Bool) → (p Zoom && p Focus && p Pan && p Tilt) ≡ true → Each p
-each_of p h =
-    let (x, t) = and_parts (p Zoom && p Focus && p Pan) (p Tilt) h in
-    let (y, n) = and_parts (p Zoom && p Focus) (p Pan) x in
-    let (z, f) = and_parts (p Zoom) (p Focus) y in
-    λ a. elim a as (λ (b : Axis). p b ≡ true) [ Zoom ↦ z | Focus ↦ f | Pan ↦ n | Tilt ↦ t ]
-
-all_of : (p : Axis → Bool) → Each p → (p Zoom && p Focus && p Pan && p Tilt) ≡ true
-all_of p h =
-    and_from (p Zoom && p Focus && p Pan) (p Tilt) (and_from (p Zoom && p Focus) (p Pan) (and_from (p Zoom) (p Focus) (h Zoom) (h Focus)) (h Pan)) (h Tilt)
 
 -- One step.
 

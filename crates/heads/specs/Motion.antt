@@ -1,5 +1,5 @@
 -- How our heads move one position in one tick.
-use Rattle.std.specs.Prelude.{ℕ, ◌*◌, max, ℤ, pos, negsuc, ◌+ℤ◌, ◌-ℤ◌, ◌*ℤ◌, ◌≤ℤ◌}
+use Rattle.std.specs.Prelude.{ℕ, ◌*◌, max, ℤ, pos, ◌+ℤ◌, ◌-ℤ◌, ◌*ℤ◌}
 use Rattle.std.specs.Int.{int_min, int_max}
 use Rattle.head.specs.declared.order.Paces.{Paces}
 use Rattle.head.specs.declared.setting.Axis.{Axis}
@@ -49,8 +49,3 @@ abbrev pub driven : Motion → Axis → ℤ → ℤ → ℤ
 driven AtOnce a v d = held (about (position a)).range (v +ℤ pos (unit a) *ℤ d)
 driven Stepwise a v d = held (about (position a)).range (v +ℤ pos (unit a) *ℤ d)
 driven Stalled a v d = v
-
--- the bounds of every value of every drive
-pub record Gentle (d : ℤ) : Type 0 where
-  pub low : negsuc 23 ≤ℤ d
-  pub high : d ≤ℤ pos 24

@@ -8,15 +8,16 @@ ghost use Rattle.heads.specs.Exact.{ticks_of};
 
 use crate::motion::Motion;
 
-/// What a head turns and moves by.
+/// What a head moves by.
 pub trait Gear {
     ghost PAN_TILT: { Bool };
 
     ghost motion: { Self → M };
 
-    // Of an order, where the settings stand as they do.
+    // What an order takes where the settings have these values.
     ghost ticks: { (Setting → ℤ) → Order → ℕ };
 
+    /// Whether it has pan and tilt.
     const PAN_TILT: bool;
 
     fn motion(&self) -> Motion

@@ -23,6 +23,7 @@ pub struct Geared<G: Gear> {
     ghost on_time: { G.motion gear ≡ Stepwise → OnTime (means G.PAN_TILT rig) },
 }
 
+// A line each: what a rig does needs no gear but its motion, so its code and proofs name none.
 impl<G: Gear> Look for Geared<G> {
     ghost setting = { λ h. value_of h.rig.settings };
 

@@ -6,8 +6,8 @@ use Rattle.head.specs.declared.settings.Settings.{Settings}
 use Rattle.head.specs.Settings.{about, position, drive, Small}
 use Rattle.head.specs.Values.{value_of}
 use Rattle.head.proofs.Bounds.{settings_small}
-use Rattle.heads.specs.Motion.{unit, held, Gentle}
-use Rattle.heads.proofs.Drives.{gentle}
+use Rattle.heads.specs.Motion.{unit, held}
+use Rattle.heads.proofs.Drives.{Gentle, gentle}
 use Rattle.heads.proofs.rig.Rig.driven.Goals as goal
 
 abbrev back : ℤ → ℤ

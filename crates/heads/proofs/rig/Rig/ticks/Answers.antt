@@ -16,7 +16,7 @@ returns-in-Stepwise c =
     let f = value_of rig.settings in
     let o = c.args.order in
     let e : c.fold.result ≡ longest f o =
-    fold_from_yields_List _ (λ m a. max m (ticks_on f o a)) 1 c.fold.result c.fold.ensures.ran (YieldsList-from_slice axes cc) (λ m x b q k. search rules)
+    fold_from_yields_List _ (λ m a. max m (ticks_on f o a)) _ c.fold.result c.fold.ensures.ran (YieldsList-from_slice axes cc) (λ m x b q k. search rules)
     ∙ most (ticks_on f o Zoom) (ticks_on f o Focus) (ticks_on f o Pan) (ticks_on f o Tilt) in
     record {
       is = elim c.in-Stepwise.is [ inl i ↦ e ∙ simp i | inr i ↦ e ∙ simp i ];
