@@ -26,5 +26,6 @@ pub record InRange (s : State) : Type 0 where
 abbrev pub meaning : {H : Type 0} → LookGhosts H → (H → head.Slots) → H → head.Meaning
 meaning l slots x = head.view l.setting l.pantilt slots x
 
+-- No model of End: its value would need a code, and for the settings, a function, the check finds none (`Coded (Setting → ℤ)`).
 abbrev pub state : {H : Type 0} {h : HeadGhosts H} {l : LookGhosts H} → End H h l → State
 state {h = h} {l = l} e = record { head = meaning l h.slots e.head; address = e.address; held = e.framer; sockets = e.sockets }

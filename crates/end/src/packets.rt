@@ -38,7 +38,7 @@ impl<H: Head> End<H> {
     {
         let other = which.other();
         let taken = self.reply(Reply::Acknowledgement(which.number()));
-        if !self.sockets.meet(other, &order) {
+        if !self.sockets.meets(other, &order) {
             self.start_command(which, order);
             return taken;
         }

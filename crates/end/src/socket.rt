@@ -91,7 +91,7 @@ impl Sockets {
     }
 
     /// Whether the order in a socket names a setting of this one.
-    pub(crate) fn meet(self, which: Which, order: &Order) -> bool
+    pub(crate) fn meets(self, which: Which, order: &Order) -> bool
         ensures { result ≡ meets_order (socket_at self (number_of which)) order.now }
     {
         self.get(which).is_some_and(|held| order.meets(&held))
