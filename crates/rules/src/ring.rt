@@ -67,7 +67,7 @@ impl Rule {
         if is_clear_for_all(packet.bytes()) {
             return Rule::ClearedForAll;
         }
-        if address == 0 || header as u16 != 0x80 + address as u16 {
+        if address == 0 || u16::from(header) != 0x80 + u16::from(address) {
             return Rule::SentOn;
         }
         own(packet.body())
