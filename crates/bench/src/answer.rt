@@ -6,7 +6,7 @@ use std::fmt;
 use wire::FaultCode;
 
 /// A fault or none, and the bytes sent.
-#[derive(Clone, Copy)]
+#[derive(Clone, Copy, Debug, PartialEq, Eq)]
 pub struct Answer<'a> {
     fault: Option<FaultCode>,
     sent: &'a [u8],

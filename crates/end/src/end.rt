@@ -11,7 +11,7 @@ use wire::Framer;
 #[derive(Drop)]
 pub struct End<H: Head> {
     pub(crate) head: H,
-    /// 1 to 7, or 0 while none is set.
+    /// 1 to 7, or 0 while none is set: a number and no `Option`, since headers are made of it, 0 too.
     pub(crate) address: u8,
     pub(crate) framer: Framer,
     pub(crate) sockets: Sockets,

@@ -15,6 +15,7 @@ fn serve<H: Head>(end: &mut End<H>, call: Call, out: &mut [u8]) -> usize
     ensures untouched { drop result out.new ≡ drop result out.old }
     ensures served { Served call (length out.old) (state end.old) (take result out.new) (state end.new) }
 {
+    // Calls are data and no closures, so that a list of them can be stated and read.
     match call {
         Call::Byte(byte) => bytes_sent(end.byte(byte, out)),
         Call::Tick => bytes_sent(end.tick(out)),

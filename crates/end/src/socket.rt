@@ -33,7 +33,7 @@ pub struct OpenSockets {
 /// One of the two.
 #[derive(Clone, Copy, Debug, PartialEq, Eq)]
 pub(crate) enum Which {
-    One,
+    One = 1,
     Two,
 }
 
@@ -53,10 +53,7 @@ impl Which {
     pub(crate) fn number(self) -> u8
         ensures { result ≡ number_of self }
     {
-        match self {
-            Which::One => 1,
-            Which::Two => 2,
-        }
+        self as u8
     }
 
     pub(crate) fn other(self) -> Which

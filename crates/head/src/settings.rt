@@ -23,6 +23,7 @@ impl Error for OutOfRange {}
 /// A value in range for each of the 22 settings.
 #[derive(Clone, Copy, Debug, PartialEq, Eq)]
 pub struct Settings {
+    // By number, and no map: a map allocates, and no call on a head may fail for want of memory.
     values: [i32; 22],
     ghost ranged: { (s : S) → in_range s (value_in values s) ≡ true },
 }

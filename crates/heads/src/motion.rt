@@ -5,7 +5,7 @@ ghost use Rattle.heads.specs.Motion.{unit as unit_of, pace as pace_of, step as s
 
 use head::{Axis, Paces, Range};
 
-/// How a head moves positions.
+/// How a head moves positions. An enum and no closure, so that contracts can tell what each comes to.
 #[derive(Clone, Copy, Debug, PartialEq, Eq)]
 pub enum Motion {
     /// An order's to their targets in one tick.

@@ -15,6 +15,7 @@ use head::Settings;
 pub struct Rig {
     pub(crate) motion: Motion,
     pub(crate) settings: Settings,
+    // Two fields and no array, for which every slot number would first have to be made an index.
     pub(crate) one: Option<Job>,
     pub(crate) two: Option<Job>,
     ghost apart: { (s : Setting) → (is_some (wanted (slot_of one) s) && is_some (wanted (slot_of two) s)) ≡ false },

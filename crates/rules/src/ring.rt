@@ -53,6 +53,7 @@ fn own(body: &[u8]) -> Rule
 
 impl Rule {
     /// The first rule that a whole packet meets at an end with this address, 0 for none yet.
+    /// (A number and no `Option`, as headers have it.)
     pub fn of(address: u8, packet: &Packet) -> Rule
         ensures first { result ≡ rule_of address (bytes_of packet.now) }
         ensures bounded { Bounded result }
