@@ -31,7 +31,7 @@ impl fmt::Display for Answer<'_> {
     fn fmt<W: fmt::Write>(&self, f: &mut fmt::Formatter<W>) -> fmt::Result {
         if let Some(code) = self.fault {
             let number = code.number;
-            let layer = u8::from(code.layer);
+            let layer = code.layer.number();
             let place = code.place;
             write!(f, "fault {number} layer {layer} place {place} ")?;
         }

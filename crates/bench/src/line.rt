@@ -10,7 +10,8 @@ pub enum Kind {
     StalledDome,
 }
 
-/// The length of a buffer for the bytes that a call sends, at most 64.
+/// The length of a buffer for the bytes that a call sends, at most 64. It stands beside no buffer: the
+/// script names the length, and the call gets a buffer of it.
 #[derive(Clone, Copy, Debug, PartialEq, Eq)]
 pub struct Room {
     pub len: usize,

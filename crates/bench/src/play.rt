@@ -83,6 +83,7 @@ fn slots<H: Head>(rt: &impl Print, head: &H) -> io::Result<()> {
 /// a new one, made from the head.
 pub fn play<H: Head + Drop>(rt: &impl Print, end: End<H>, line: Line) -> io::Result<End<H>> {
     let mut end = end;
+    // A match over lines and no closures: a script is read before there is an end to call.
     match line {
         Line::Blank => {}
         Line::Head(_) => not_understood(rt)?,

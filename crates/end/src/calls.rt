@@ -14,7 +14,7 @@ ghost use Rattle.wire.specs.Framing.{bytes_of};
 use crate::call::Call;
 use crate::end::End;
 use crate::fault::{Cause, Fault};
-use crate::sending::{ROOM, both, packet_of, put};
+use crate::sending::{ROOM, both, put};
 use crate::socket::{OpenSockets, Sockets, Which};
 use head::{Ending, Head, Look, Order};
 use rules::{Problem, Reply};
@@ -58,8 +58,8 @@ fn ended(header: u8, which: Which, ending: Option<Ending>) -> Bytes
     let number = which.number();
     match ending {
         None => Bytes::new(),
-        Some(Ending::Done) => packet_of(header, Reply::Completion(number)),
-        Some(Ending::Jammed) => { packet_of(header, Reply::Error(number, Problem::NotExecutable)) }
+        Some(Ending::Done) => Reply::Completion(number).packet(header),
+        Some(Ending::Jammed) => Reply::Error(number, Problem::NotExecutable).packet(header),
     }
 }
 
@@ -72,10 +72,7 @@ impl<H: Head> End<H> {
             head: idled(head),
             address: 0,
             framer: Framer::new(),
-            sockets: Sockets {
-                one: None,
-                two: None,
-            },
+            sockets: Sockets::CLOSED,
         }
     }
 
@@ -90,12 +87,13 @@ impl<H: Head> End<H> {
             Ok(sent) => Ok(put(sent, out)),
             Err(fault) => Err(Fault {
                 cause: Cause::Packet(fault),
-                sent: put(packet_of(header, Reply::Error(0, Problem::Syntax)), out),
+                sent: put(Reply::Error(0, Problem::Syntax).packet(header), out),
             }),
         }
     }
 
-    // A byte, given a buffer.
+    // A byte, given a buffer. The clause `law` of `byte` follows from the others alone, which are said here
+    // of the code; so it is for a tick.
     fn take_byte(&mut self, byte: u8, out: &mut [u8]) -> Result<usize, Fault>
         ensures step { Step (state self.old) (Call.Byte byte) (length out.old) (answered result) (take (count result) out.new) (state self.new) }
         ensures untouched { drop (count result) out.new ≡ drop (count result) out.old }

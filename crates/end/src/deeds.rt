@@ -16,10 +16,7 @@ impl<H: Head> End<H> {
     {
         self.head.drop_slot(1);
         self.head.drop_slot(2);
-        self.sockets = Sockets {
-            one: None,
-            two: None,
-        };
+        self.sockets = Sockets::CLOSED;
     }
 
     /// Drops a slot and closes its socket.

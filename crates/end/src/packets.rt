@@ -10,7 +10,7 @@ ghost use Rattle.rows.specs.Requests.{read_body};
 ghost use Rattle.wire.specs.Framing.{bytes_of};
 
 use crate::end::End;
-use crate::sending::{answer_to, both, packet_of, sent};
+use crate::sending::{answer_to, both};
 use crate::socket::Which;
 use head::{Head, Look, Order};
 use rows::{Inquiry, PacketFault, Request, read};
@@ -29,7 +29,7 @@ impl<H: Head> End<H> {
     fn reply(&self, reply: Reply) -> Bytes
         ensures { result ≡ own self.now.address reply }
     {
-        packet_of(self.own_header(), reply)
+        reply.packet(self.own_header())
     }
 
     // A command for a socket, with the other's displaced where it names a common setting.
@@ -100,13 +100,13 @@ impl<H: Head> End<H> {
             Rule::AddressSet(w) => {
                 self.clear();
                 self.address = w;
-                Ok(sent(&[0x88, 0x30, w + 1, 0xff]))
+                Ok(Bytes::try_from([0x88, 0x30, w + 1, 0xff].as_slice()).unwrap())
             }
             Rule::ClearedForAll => {
                 self.clear();
-                Ok(sent(packet.bytes()))
+                Ok(Bytes::from(*packet))
             }
-            Rule::SentOn => Ok(sent(packet.bytes())),
+            Rule::SentOn => Ok(Bytes::from(*packet)),
             Rule::Cleared => {
                 self.clear();
                 Ok(self.reply(Reply::Completion(0)))

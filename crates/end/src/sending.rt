@@ -2,26 +2,13 @@
 
 ghost use Rattle.std.specs.Prelude.{◌≡◌, ◌+◌, ◌≤◌, ◌++◌, length, take, drop};
 ghost use Rattle.rows.specs.Answers.{answer_of};
-ghost use Rattle.rules.specs.Replies.{packet};
 
 use head::Look;
 use rows::{Inquiry, answer};
-use rules::Reply;
 use wire::{Bytes, send_at};
 
 /// The least room that a call must be given.
 pub const ROOM: usize = 16;
-
-/// These bytes.
-pub(crate) fn sent(bytes: &[u8]) -> Bytes
-    requires { length bytes.now ≤ 16 }
-    ensures { result ≡ bytes.now }
-{
-    let mut sent = Bytes::new();
-    // there is room
-    let _ = sent.extend_from_slice(bytes);
-    sent
-}
 
 /// Both, one behind the other.
 pub(crate) fn both(first: Bytes, second: Bytes) -> Bytes
@@ -29,18 +16,8 @@ pub(crate) fn both(first: Bytes, second: Bytes) -> Bytes
     ensures { result ≡ first ++ second }
 {
     let mut sent = first;
-    // there is room
-    let _ = sent.extend_from_slice(second.as_slice());
+    sent.extend_from_slice(second.as_slice()).unwrap();
     sent
-}
-
-/// A reply behind its header.
-pub(crate) fn packet_of(header: u8, reply: Reply) -> Bytes
-    ensures { result ≡ packet header reply }
-{
-    let mut room = [0; 16];
-    let count = reply.send_at(header, &mut room, 0).unwrap_or(0);
-    sent(&room[..count])
 }
 
 /// The answer to an inquiry behind its header.
@@ -48,8 +25,8 @@ pub(crate) fn answer_to<L: Look>(from: &L, inquiry: Inquiry, header: u8) -> Byte
     ensures { result ≡ answer_of L.Look from.now header inquiry }
 {
     let mut room = [0; 16];
-    let count = answer(from, inquiry, header, &mut room).unwrap_or(0);
-    sent(&room[..count])
+    let count = answer(from, inquiry, header, &mut room).unwrap();
+    Bytes::try_from(&room[..count]).unwrap()
 }
 
 /// Puts the bytes at the front of the buffer and tells their count.
@@ -59,5 +36,5 @@ pub(crate) fn put(bytes: Bytes, out: &mut [u8]) -> usize
     ensures front { take result out.new ≡ bytes }
     ensures untouched { drop result out.new ≡ drop result out.old }
 {
-    send_at(out, 0, bytes.as_slice()).unwrap_or(0)
+    send_at(out, 0, bytes.as_slice()).unwrap()
 }

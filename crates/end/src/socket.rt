@@ -19,6 +19,7 @@ use rules::powers_on;
 /// ```
 #[derive(Clone, Copy, Debug, PartialEq, Eq)]
 pub struct Sockets {
+    // Two fields and no array: which of the two is a type, and no index that might be out of bounds.
     pub one: Option<Order>,
     pub two: Option<Order>,
 }
@@ -38,7 +39,7 @@ pub(crate) enum Which {
 }
 
 impl Which {
-    /// The socket with this number on the line, if there is one.
+    /// The socket with this number on the line, if there is one; no `TryFrom`, whose error nobody reads.
     pub(crate) fn numbered(number: u8) -> Option<Which>
         ensures { result ≡ numbered number }
     {
@@ -67,6 +68,12 @@ impl Which {
 }
 
 impl Sockets {
+    /// Both closed.
+    pub const CLOSED: Sockets = Sockets {
+        one: None,
+        two: None,
+    };
+
     pub(crate) fn get(self, which: Which) -> Option<Order>
         ensures { result ≡ socket_at self (number_of which) }
     {

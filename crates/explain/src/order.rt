@@ -1,10 +1,10 @@
 //! Orders in words.
 
 use crate::words::InWords;
-use head::{Order, Paces, Setting, Target};
+use head::{Axis, Order, Paces, Setting, Target};
 use std::fmt;
 
-// What a value of a setting with a list is called.
+// What a value of a setting with a list is called. A value alone has no name: it depends on the setting.
 fn value_name(setting: Setting, value: i32) -> &'static str {
     match (setting, value) {
         (Setting::FocusMode, 2) | (Setting::WhiteBalance, 0) => " (auto)",
@@ -26,14 +26,8 @@ fn value_name(setting: Setting, value: i32) -> &'static str {
 
 // Whether the order moves the position whose drive this is: its drive to 0 then goes without saying.
 fn goes_without_saying(order: &Order, setting: Setting) -> bool {
-    let position = match setting {
-        Setting::ZoomDrive => Setting::Zoom,
-        Setting::FocusDrive => Setting::Focus,
-        Setting::PanDrive => Setting::Pan,
-        Setting::TiltDrive => Setting::Tilt,
-        _ => return false,
-    };
-    order.target(position).is_some()
+    Axis::ALL.into_iter().any(|axis| axis.drive() == setting
+        && order.target(axis.position()).is_some())
 }
 
 impl fmt::Display for InWords<Target> {

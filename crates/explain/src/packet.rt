@@ -3,7 +3,7 @@
 use crate::words::{InWords, explain_fault};
 use hexadecimal::Hex;
 use rows::{Form, Inquiry, Request, read};
-use rules::{Problem, Reply, UnknownCode, Unread};
+use rules::{Problem, Reply, Rule, UnknownCode, Unread};
 use std::{fmt, io};
 use wire::Packet;
 
@@ -28,9 +28,9 @@ impl fmt::Display for InWords<Request> {
 
 // What is asked of one camera.
 fn explain_request(rt: &impl Print, body: &[u8]) -> io::Result<()> {
-    match body {
-        [0x01, 0x00, 0x01] => println!(rt; "clear"),
-        [code @ 0x20..=0x2f] => println!(rt; "cancel: socket {}", code % 16),
+    match Rule::of_body(body) {
+        Rule::Cleared => println!(rt; "clear"),
+        Rule::Cancelled(socket) => println!(rt; "cancel: socket {socket}"),
         _ => match read(body) {
             Ok(request) => rt.println(InWords(request)),
             Err(fault) => explain_fault(rt, fault.into(), &fault),

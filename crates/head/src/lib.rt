@@ -5,6 +5,7 @@
 
 #![tactic(auto)]
 
+pub mod by_name;
 pub mod names;
 pub mod order;
 pub mod orders;
@@ -16,6 +17,7 @@ pub mod table;
 pub mod target;
 pub mod traits;
 
+pub use by_name::value;
 pub use order::{Order, Paces};
 pub use outcome::{Ending, Endings, Refusal};
 pub use setting::{Axis, NoSuchSetting, Range, Setting};

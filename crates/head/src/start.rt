@@ -17,6 +17,7 @@ pub fn admit(
 ) -> Result<(), Refusal>
     ensures { answered result ≡ reason pan_tilt one two slot order }
 {
+    // A number, as a head is asked for it: the first reason is that there is no such slot.
     let (own, other) = match slot {
         1 => (one, two),
         2 => (two, one),

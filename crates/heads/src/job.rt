@@ -1,4 +1,4 @@
-//! An order at work in a slot, and what a tick leaves of it.
+//! An order at work in a slot.
 
 ghost use Rattle.std.specs.Prelude.{◌≡◌, ◌≤◌, true};
 ghost use Rattle.head.specs.Meaning.{busy};

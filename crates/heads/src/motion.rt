@@ -44,7 +44,8 @@ pub(crate) fn step(paces: Paces, axis: Axis) -> u16
     unit(axis) * u16::from(pace(paces, axis).max(1))
 }
 
-/// At most so many units from a value toward a target.
+/// At most so many units from a value toward a target. Its ends saturate, so that no caller has to show
+/// that the value is small.
 pub(crate) fn toward(step: u16, from: i32, to: i32) -> i32
     ensures { result ≡ toward_by step from to }
 {
@@ -57,7 +58,7 @@ pub(crate) fn held(range: Range, value: i32) -> i32
     ensures { result ≡ held_to range value }
 {
     match range {
-        // No `clamp`, which asks for low <= high: a range does not promise that.
+        // No `clamp`: tried, but it asks for low <= high, and a range does not promise that.
         Range::Span(low, high) => value.max(low).min(high),
         _ => value,
     }

@@ -81,7 +81,8 @@ impl Rig {
     {
         let mut settings = self.settings;
         for setting in Setting::ALL {
-            // it is never out of range
+            // It is never out of range, so nothing is lost. A map over the settings would have to make a
+            // second array, and show of it again that all are in range.
             let _ = settings.set(setting, self.next(endings, setting));
         }
         settings

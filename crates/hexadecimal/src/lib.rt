@@ -29,6 +29,7 @@ pub struct Hex<'a>(pub &'a [u8]);
 
 impl fmt::Display for Hex<'_> {
     fn fmt<W: fmt::Write>(&self, f: &mut fmt::Formatter<W>) -> fmt::Result {
+        // No chain: a gap stands between two bytes, and `fmt` may not make a text to join.
         let mut gap = "";
         for byte in self.0 {
             write!(f, "{gap}{byte:02X}")?;

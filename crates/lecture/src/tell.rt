@@ -4,7 +4,7 @@
 use crate::lecture::Step;
 use crate::words::InWords;
 use end::{End, Fault, ROOM, bytes_sent};
-use head::{Head, Look, Setting};
+use head::{Head, Look, Setting, value};
 use hexadecimal::Hex;
 use std::io;
 use wire::Framer;
@@ -50,11 +50,6 @@ fn wait<H: Head>(rt: &impl Print, end: &mut End<H>, ticks: u32) -> io::Result<()
     Ok(())
 }
 
-// The value of a setting; every setting has one.
-fn value(head: &impl Look, setting: Setting) -> i32 {
-    head.look(setting.number()).unwrap_or(0)
-}
-
 fn tell_view(rt: &impl Print, head: &impl Look, ticks: u32) -> io::Result<()> {
     let plural = if ticks == 1 { "" } else { "s" };
     let pan = value(head, Setting::Pan);
@@ -63,7 +58,7 @@ fn tell_view(rt: &impl Print, head: &impl Look, ticks: u32) -> io::Result<()> {
     println!(rt; "  camera    after {ticks} tick{plural}: pan {pan}, tilt {tilt}, zoom {zoom}")
 }
 
-/// Plays the steps in turn.
+/// Plays the steps in turn. They are data and no closures: the lecture is a table to be read.
 pub fn play<H: Head>(rt: &impl Print, end: &mut End<H>, steps: &[Step]) -> io::Result<()> {
     for step in steps {
         match *step {

@@ -1,6 +1,6 @@
 //! What the packets that the box sends say, in words.
 
-use rules::{Problem, Reply};
+use rules::{Problem, Reply, Unread};
 use std::fmt;
 
 /// The body of a packet that the box sent, to be said in words.
@@ -31,9 +31,10 @@ impl fmt::Display for InWords<'_> {
             (Ok(reply), _) => write_reply(f, reply),
             (_, [0x30, next]) => write!(f, "address {next} is for the next camera"),
             (_, [0x50, p, q, r, s]) => {
-                let value = *p as u32 * 4096 + *q as u32 * 256 + *r as u32 * 16 + *s as u32;
-                write!(f, "at {value}")
+                let [p, q, r, s] = [*p, *q, *r, *s].map(u32::from);
+                write!(f, "at {}", p * 4096 + q * 256 + r * 16 + s)
             }
+            (Err(Unread::Error(..)), _) => write!(f, "another error"),
             _ => write!(f, "another packet"),
         }
     }

@@ -8,14 +8,14 @@ ghost use Rattle.rows.specs.declared.inquiries.Form.TheVariants.{PanTilt};
 
 use crate::digits::digits;
 use crate::inquiries::{Form, Inquiry};
-use head::{Look, Setting};
+use head::{Look, Setting, value};
 use wire::send_at;
 
 // The digits of a setting's value.
 fn shown<L: Look>(from: &L, setting: Setting) -> [u8; 4]
     ensures { result ≡ looked_digits (L.Look.setting from.now) setting }
 {
-    from.look(setting.number()).map_or([0; 4], digits)
+    digits(value(from, setting))
 }
 
 // Pan and tilt in eight digits, or error 41 without them.

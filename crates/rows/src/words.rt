@@ -1,6 +1,7 @@
 //! Faults of a body in words.
 
 use crate::fault::{PacketFault, RowFault};
+use std::error::Error;
 use std::fmt;
 
 impl fmt::Display for RowFault {
@@ -20,3 +21,7 @@ impl fmt::Display for PacketFault {
         }
     }
 }
+
+impl Error for RowFault {}
+
+impl Error for PacketFault {}

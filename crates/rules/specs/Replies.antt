@@ -52,6 +52,6 @@ on_line (Acknowledgement y) = Acknowledgement (y % 16)
 on_line (Completion y) = Completion (y % 16)
 on_line (Error y problem) = Error (y % 16) problem
 
--- a reply that is sent is read as itself
+-- a reply that is sent is read as itself, its socket being the low digit that is on the line
 abbrev pub RepliesReadBack : Type 0
 RepliesReadBack = (header : ℕ) (r : Reply) → reply_of (body_of (packet header r)) ≡ Ok (on_line r)

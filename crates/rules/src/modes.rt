@@ -4,7 +4,7 @@ ghost use Rattle.std.specs.Prelude.{◌≡◌};
 ghost use Rattle.head.specs.Settings.{number};
 ghost use Rattle.rules.specs.Modes.{modes_of, lacks, shuts, forbids, powers_on as powers_on_by, forbidden_by};
 
-use head::{Look, Order, Setting, Target};
+use head::{Look, Order, Setting, Target, value};
 
 // Values of power and freeze.
 const ON: i32 = 2;
@@ -23,7 +23,7 @@ const BRIGHT: i32 = 13;
 // Of white balance, another number is manual.
 const MANUAL_BALANCE: i32 = 5;
 
-/// The settings that commands depend on.
+/// The settings that commands depend on: numbers, as a head has them, so that they stand in patterns.
 #[derive(Clone, Copy, PartialEq, Eq, Debug)]
 pub struct Modes {
     pub power: i32,
@@ -31,12 +31,6 @@ pub struct Modes {
     pub white_balance: i32,
     pub exposure: i32,
     pub freeze: i32,
-}
-
-fn value<L: Look>(from: &L, setting: Setting) -> i32
-    ensures { result ≡ L.Look.setting from.now setting }
-{
-    from.look(setting.number()).unwrap_or(0)
 }
 
 impl Modes {

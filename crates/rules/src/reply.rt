@@ -1,10 +1,10 @@
 //! What an end says of itself, as packets: a header, one or two bytes, and FF.
 
-ghost use Rattle.std.specs.Prelude.{◌≡◌, ◌+◌, length, if◌then◌else◌, Some, None, nat_le};
+ghost use Rattle.std.specs.Prelude.{◌≡◌, ◌+◌, ◌≤◌, length, if◌then◌else◌, Some, None, nat_le};
 ghost use Rattle.rules.specs.Replies.{code_of, packet};
 ghost use Rattle.wire.specs.Line.{over_at};
 
-use wire::send_at;
+use wire::{Bytes, send_at};
 
 /// What is wrong, by VISCA's code.
 #[derive(Clone, Copy, PartialEq, Eq, Debug)]
@@ -32,6 +32,14 @@ pub enum Reply {
     Error(u8, Problem),
 }
 
+// A few bytes, for which there is room.
+fn bytes(few: &[u8]) -> Bytes
+    requires { length few.now ≤ 16 }
+    ensures { result ≡ few.now }
+{
+    Bytes::try_from(few).unwrap()
+}
+
 impl Problem {
     /// The code on the line.
     pub fn code(self) -> u8
@@ -42,19 +50,23 @@ impl Problem {
 }
 
 impl Reply {
+    /// The reply's packet.
+    pub fn packet(self, header: u8) -> Bytes
+        ensures { result ≡ packet header self }
+    {
+        match self {
+            Reply::Acknowledgement(y) => bytes(&[header, 0x40 + y % 16, 0xff]),
+            Reply::Completion(y) => bytes(&[header, 0x50 + y % 16, 0xff]),
+            Reply::Error(y, problem) => bytes(&[header, 0x60 + y % 16, problem.code(), 0xff]),
+        }
+    }
+
     /// Puts the reply's packet into the buffer from a place on and tells the place behind it; a
     /// buffer that is too short for it is left as it is.
     pub fn send_at(self, header: u8, out: &mut [u8], at: usize) -> Option<usize>
         ensures next { result ≡ (if nat_le (at + length (packet header self)) (length out.old) then Some (at + length (packet header self)) else None) }
         ensures sent { out.new ≡ (if nat_le (at + length (packet header self)) (length out.old) then over_at at (packet header self) out.old else out.old) }
     {
-        // Three arms, since an error has a byte more: one array for all would need its length beside it.
-        match self {
-            Reply::Acknowledgement(y) => send_at(out, at, &[header, 0x40 + y % 16, 0xff]),
-            Reply::Completion(y) => send_at(out, at, &[header, 0x50 + y % 16, 0xff]),
-            Reply::Error(y, problem) => {
-                send_at(out, at, &[header, 0x60 + y % 16, problem.code(), 0xff])
-            }
-        }
+        send_at(out, at, self.packet(header).as_slice())
     }
 }

@@ -41,17 +41,18 @@ fn is_clear_for_all(bytes: &[u8]) -> bool
     matches!(bytes, [0x88, 0x01, 0x00, 0x01, 0xff])
 }
 
-fn own(body: &[u8]) -> Rule
-    ensures { result ≡ for_this_end body.now }
-{
-    match body {
-        [0x01, 0x00, 0x01] => Rule::Cleared,
-        [y @ 0x20..=0x2f] => Rule::Cancelled(*y - 0x20),
-        _ => Rule::Requested,
-    }
-}
-
 impl Rule {
+    /// The rule for a body that is for this end.
+    pub fn of_body(body: &[u8]) -> Rule
+        ensures { result ≡ for_this_end body.now }
+    {
+        match body {
+            [0x01, 0x00, 0x01] => Rule::Cleared,
+            [y @ 0x20..=0x2f] => Rule::Cancelled(*y - 0x20),
+            _ => Rule::Requested,
+        }
+    }
+
     /// The first rule that a whole packet meets at an end with this address, 0 for none yet.
     /// (A number and no `Option`, as headers have it.)
     pub fn of(address: u8, packet: &Packet) -> Rule
@@ -71,6 +72,6 @@ impl Rule {
         if address == 0 || u16::from(header) != 0x80 + u16::from(address) {
             return Rule::SentOn;
         }
-        own(packet.body())
+        Rule::of_body(packet.body())
     }
 }

@@ -3,7 +3,7 @@
 
 ghost use Rattle.rules.specs.Replies.{RepliesReadBack};
 
-/// A reply that is sent is read as itself.
+/// A reply that is sent is read as itself, its socket being the low digit that is on the line.
 pub fn replies_read_back()
     ensures { RepliesReadBack }
 {}

@@ -1,5 +1,6 @@
 -- Up to 16 bytes kept in a room of 16, with 0 in the rest of the room.
-use Rattle.std.specs.Prelude.{◌≡◌, ℕ, ◌-◌, ◌≤◌, List, ◌++◌, length, take, replicate}
+use Rattle.std.specs.Prelude.{◌≡◌, ℕ, ◌-◌, ◌≤◌, cond, List, ◌++◌, length, take, replicate, Ok, Err, Result, nat_le}
+use Rattle.wire.specs.declared.bytes.Full.{Full}
 
 -- the room that bytes stand in
 abbrev pub padded : List ℕ → List ℕ
@@ -10,3 +11,7 @@ pub record Padded (n : ℕ) (room : List ℕ) : Type 0 where
   pub most : n ≤ 16
   pub count : length (take n room) ≡ n
   pub rest : padded (take n room) ≡ room
+
+-- bytes, if there is room for them
+abbrev pub if_room : List ℕ → Result (List ℕ) Full
+if_room bs = cond (nat_le (length bs) 16) (Ok bs) (Err (record {}))

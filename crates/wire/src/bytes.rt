@@ -1,6 +1,7 @@
 //! Up to 16 bytes in memory of their own, so that nothing on the line can fail for want of memory.
 
 ghost use Rattle.std.specs.Prelude.{◌≡◌, ◌+◌, ◌<◌, ◌≤◌, [], ◌∷◌, ◌++◌, length, if◌then◌else◌, is_ok, nat_le};
+ghost use Rattle.wire.specs.Kept.{if_room};
 
 use crate::writer::send_at;
 use std::error::Error;
@@ -80,5 +81,17 @@ impl Bytes {
     {
         self.len = send_at(&mut self.room, self.len, more).ok_or(Full)?;
         Ok(())
+    }
+}
+
+impl TryFrom<&[u8]> for Bytes {
+    type Error = Full;
+
+    ghost try_from_gives = { λ bytes r. r ≡ if_room bytes.now };
+
+    fn try_from(bytes: &[u8]) -> Result<Bytes, Full> {
+        let mut kept = Bytes::new();
+        kept.extend_from_slice(bytes)?;
+        Ok(kept)
     }
 }

@@ -22,14 +22,16 @@ pub struct FaultCode {
     pub place: u8,
 }
 
-impl From<Layer> for u8 {
-    ghost from_gives = { λ layer n. n ≡ number_of layer };
-
-    fn from(layer: Layer) -> u8 {
-        layer as u8
+impl Layer {
+    /// The layer's number, 0 to 3.
+    pub fn number(self) -> u8
+        ensures { result ≡ number_of self }
+    {
+        self as u8
     }
 }
 
+// Each layer converts its own faults, which no other layer knows; the rows' do likewise.
 impl From<FramingFault> for FaultCode {
     ghost from_gives = { λ fault code. code ≡ code_of fault };
 

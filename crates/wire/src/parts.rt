@@ -4,6 +4,7 @@ ghost use Rattle.std.specs.Prelude.{◌≡◌, slice_index};
 ghost use Rattle.wire.specs.Framing.{bytes_of};
 ghost use Rattle.wire.specs.Packets.{body_of};
 
+use crate::bytes::Bytes;
 use crate::packet::Packet;
 
 #[tactic(auto, using(crate::proofs::Forms::packet_some))]
@@ -30,5 +31,13 @@ impl Packet {
             [_, body @ .., _] => body,
             _ => unreachable!(),
         }
+    }
+}
+
+impl From<Packet> for Bytes {
+    ghost from_gives = { λ packet bytes. bytes ≡ bytes_of packet };
+
+    fn from(packet: Packet) -> Bytes {
+        packet.bytes
     }
 }

@@ -1,6 +1,7 @@
 //! Faults of framing in words.
 
 use crate::framer::FramingFault;
+use std::error::Error;
 use std::fmt;
 
 impl fmt::Display for FramingFault {
@@ -12,3 +13,5 @@ impl fmt::Display for FramingFault {
         })
     }
 }
+
+impl Error for FramingFault {}

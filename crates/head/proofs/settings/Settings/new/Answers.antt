@@ -20,6 +20,3 @@ pub invariant_of-result : goal.invariant_of-result
 invariant_of-result c = record {
   ranged = in_range_at c.map.result (λ s. let (p, q, called) = c.map.ensures.items.at (number s) Power (pos 0) (below s) in search rules);
 }
-
-pub returns : goal.returns
-returns c = first_at c.map.result (λ s. let (p, q, called) = c.map.ensures.items.at (number s) Power (pos 0) (below s) in search rules)

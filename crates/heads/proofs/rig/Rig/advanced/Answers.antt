@@ -21,6 +21,3 @@ loop-setting-preserved c =
     passed_more k x (is_ok c.set.result) (to_z w32 (of_z w32 c.next.result)) (value_of c.loop-setting.settings) (value_of c.set.new.self)
     (next rig.motion (slots_of rig) c.args.endings (value_of rig.settings))
     (number_at k c.loop-setting-test.true) t v c.set.ensures.values c.loop-setting.invariant
-
-pub returns : goal.returns
-returns c s = c.loop-setting.invariant s (omega (arith, below s))

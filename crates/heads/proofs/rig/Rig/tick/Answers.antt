@@ -13,13 +13,6 @@ left_in_slot : (j r : Option Job) → MatchOption j (r ≡ None) (λ x. slot_of 
 left_in_slot None r h = ap slot_of h
 left_in_slot (Some x) r h = h
 
-pub invariant_of-self : goal.invariant_of-self
-invariant_of-self c =
-    let r = c.args.self.now in
-    let one = left_in_slot r.one c.and_then-self.result c.and_then-self.ensures in
-    let two = left_in_slot r.two c.and_then-self-2.result c.and_then-self-2.ensures in
-    record { apart = λ s. simp (one, two) (rest_apart (slot_of r.one) (slot_of r.two) r.apart s) }
-
 pub returns-clause-ran : goal.returns-clause-ran
 returns-clause-ran c p =
     let r = c.args.self.now in
