@@ -1,6 +1,6 @@
 //! Text to lines of a script. A line that is not understood is none.
 
-ghost use Rattle.std.specs.Prelude.{◌<◌, ◌≤◌, IfSome};
+ghost use Rattle.std.specs.Prelude.{◌≤◌, IfSome};
 
 use crate::line::{Kind, Line, Room, USUAL};
 use hexadecimal::byte;

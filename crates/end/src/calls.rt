@@ -1,6 +1,6 @@
 //! The calls on an end: make, byte, tick, open, take off.
 
-ghost use Rattle.std.specs.Prelude.{◌≡◌, ◌+◌, ◌<◌, ◌≤◌, [], length, take, drop, OnOk, IfErr};
+ghost use Rattle.std.specs.Prelude.{◌≡◌, ◌<◌, ◌≤◌, [], length, take, drop, OnOk, IfErr};
 ghost use Rattle.end.specs.Deeds.{Cleared, settled as settled_by};
 ghost use Rattle.end.specs.Faults.{answered, count, opens, refused};
 ghost use Rattle.end.specs.Law.{Keeps};

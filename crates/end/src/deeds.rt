@@ -7,7 +7,7 @@ ghost use Rattle.end.specs.Steps.{Worked};
 
 use crate::end::End;
 use crate::socket::{Sockets, Which};
-use head::{Head, Look, Order};
+use head::{Head, Order};
 
 impl<H: Head> End<H> {
     /// Drops both slots and closes both sockets.

@@ -1,6 +1,6 @@
 //! What comes of a whole packet.
 
-ghost use Rattle.std.specs.Prelude.{◌≡◌, ◌+◌, ◌*◌, Ok};
+ghost use Rattle.std.specs.Prelude.{◌≡◌, Ok};
 ghost use Rattle.end.specs.Outcomes.{own, own_header as own_header_of, taken as taken_by, commanded as commanded_by, requested as requested_by, cancelled as cancelled_by, met as met_by};
 ghost use Rattle.end.specs.Sockets.{number};
 ghost use Rattle.end.specs.States.{state};
@@ -12,8 +12,8 @@ ghost use Rattle.wire.specs.Framing.{bytes_of};
 use crate::end::End;
 use crate::sending::{answer_to, both};
 use crate::socket::Which;
-use head::{Head, Look, Order};
-use rows::{Inquiry, PacketFault, Request, read};
+use head::{Head, Order};
+use rows::{PacketFault, Request, read};
 use rules::{Problem, Reply, Rule, forbidden};
 use wire::{Bytes, Packet};
 

@@ -1,6 +1,6 @@
 //! The values of all settings, each in its range.
 
-ghost use Rattle.std.specs.Prelude.{◌≡◌, true, ◌&&◌, ℤ, if◌then◌else◌, is_ok};
+ghost use Rattle.std.specs.Prelude.{◌≡◌, true, ◌&&◌, if◌then◌else◌, is_ok};
 ghost use Rattle.head.specs.declared.setting.Setting.{Setting as S};
 ghost use Rattle.head.specs.Settings.{about, same, in_range, value_in};
 

@@ -1,6 +1,6 @@
 //! A rig with its gear, which is a head.
 
-ghost use Rattle.std.specs.Prelude.{◌≡◌, true, false};
+ghost use Rattle.std.specs.Prelude.{◌≡◌, false};
 ghost use Rattle.head.specs.Values.{value_of};
 ghost use Rattle.head.specs.Meaning.{busy, put, answered, Started, Ticked, Dropped};
 ghost use Rattle.heads.specs.declared.motion.Motion.TheVariants.{Stepwise};

@@ -4,7 +4,7 @@ ghost use Rattle.std.specs.Prelude.{◌≡◌, Bool};
 ghost use Rattle.head.specs.declared.setting.Setting.{Setting as S};
 ghost use Rattle.head.specs.Settings.{about, looked};
 ghost use Rattle.head.specs.Values.{value_of};
-ghost use Rattle.head.specs.Meaning.{at as slot_at, left_of, put, idle, busy, answered, refusal, Kept, Started, Dropped};
+ghost use Rattle.head.specs.Meaning.{at as slot_at, left_of, put, idle, busy, answered, refusal, Started, Dropped};
 ghost use Rattle.heads.specs.Exact.{ticks_of};
 ghost use Rattle.heads.specs.Rigs.{means, slots_of};
 

@@ -1,9 +1,9 @@
-use Rattle.std.proofs.Common.{is_ok, ◌≡◌, true, get_or, ℤ, sym, ◌∙◌, subst, arith, w32, SFits, to_z, of_z, rules}
+use Rattle.std.proofs.Common.{is_ok, ◌≡◌, true, get_or, ℤ, sym, ◌∙◌, subst, w32, SFits, to_z, of_z, rules}
 use Rattle.std.proofs.lemmas.Int.{to_z-of_z}
 use Rattle.head.specs.declared.setting.Setting.TheVariants.{Power}
 use Rattle.head.specs.Settings.{all, in_range}
 use Rattle.head.specs.Values.{value_of}
-use Rattle.head.proofs.Tables.{below, number_at, passed_more}
+use Rattle.head.proofs.Tables.{number_at, passed_more}
 use Rattle.heads.specs.Exact.{next}
 use Rattle.heads.specs.Rigs.{slots_of}
 use Rattle.heads.proofs.Moves.{next_in_range}

@@ -5,7 +5,7 @@ use Rattle.head.specs.Values.{value_of}
 use Rattle.heads.specs.declared.job.Job.{Job}
 use Rattle.heads.specs.Exact.{slot_of, rest}
 use Rattle.heads.specs.Rigs.{means}
-use Rattle.heads.proofs.Lawful.{rest_apart, moved_one, moved_two, foretold_is}
+use Rattle.heads.proofs.Lawful.{moved_one, moved_two, foretold_is}
 use Rattle.heads.proofs.rig.Rig.tick.Goals as goal
 
 -- what is left of a job is what is left in its slot
