@@ -30,8 +30,9 @@ pub trait Look {
 pub trait Head: Look {
     ghost slots: { Self → Slots };
 
-    // Each promise writes its view out: a member for it could be given another meaning. And a slot is a
-    // number here and no enum: one that is neither 1 nor 2 is answered, and asks nothing of callers.
+    // Each promise writes its view out: a member for it could be given another meaning, and a definition
+    // over the record of `Look` is an import cycle (tried). A slot is a number here and no enum: one that
+    // is neither 1 nor 2 is answered, and asks nothing of callers.
 
     /// The ticks left of the slot's order; 0 if the slot is idle or is neither 1 nor 2.
     fn ticks_left(&self, slot: u8) -> u16

@@ -74,6 +74,7 @@ impl Bytes {
         self.room[self.len] = byte;
         self.len += 1;
     }
+
     /// Keeps more bytes behind these: all of them, or none where they are more than there is room for.
     pub fn extend_from_slice(&mut self, more: &[u8]) -> Result<(), Full>
         ensures fits { is_ok result ≡ nat_le (length self.old + length more.now) 16 }
