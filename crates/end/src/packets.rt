@@ -17,6 +17,8 @@ use rows::{PacketFault, Request, read};
 use rules::{Problem, Reply, Rule, forbidden};
 use wire::{Bytes, Packet};
 
+// Outcomes speak of address, head and sockets one by one, and of no whole state: what stands between bytes
+// is nothing to them.
 impl<H: Head> End<H> {
     /// The header of the end's own packets, X0.
     pub(crate) fn own_header(&self) -> u8
