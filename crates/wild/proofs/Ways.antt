@@ -1,5 +1,5 @@
 -- The ways that positions go.
-use Rattle.std.proofs.Common.{◌≡◌, ℕ, ◌≤◌, true, false, ◌&&◌, ℤ, pos, ◌+ℤ◌, ◌-ℤ◌, ◌≤ℤ◌, ◌<ℤ◌, inl, inr, arith, w32, SFits, to_z, of_z}
+use Rattle.std.proofs.Common.{◌≡◌, ℕ, ◌≤◌, true, false, ◌&&◌, ℤ, pos, ◌+ℤ◌, ◌-ℤ◌, ◌≤ℤ◌, inl, inr, arith, w32, SFits, to_z, of_z}
 use lib.Signed.{le_z}
 use Rattle.std.proofs.lemmas.Int.{ints}
 use Rattle.std.proofs.lemmas.Bool.{and_parts}
@@ -20,47 +20,30 @@ pub down : (v t r : ℤ) (d n : ℕ) → SFits w32 v → SFits w32 t → le_z v 
     → Between v (to_z w32 (of_z w32 r)) t
 down v t r d n f g h k e s = inr (grind (arith, ints), grind (arith, ints))
 
--- the ends of a range that has a value
-record Ends (a : Axis) (low high v : ℤ) : Type 0 where
-  above : low ≤ℤ v
-  under : v ≤ℤ high
-  lowest : in_range (position a) low ≡ true
-  highest : in_range (position a) high ≡ true
+-- what is in the span of a position is in range
+pub spanned : (a : Axis) (low high w : ℤ) → (about (position a)).range ≡ Span low high → low ≤ℤ w → w ≤ℤ high → in_range (position a) w ≡ true
+unfolding in_range
+spanned a low high w e h g = simp e (grind (arith, ints))
 
-ends : (a : Axis) (low high v : ℤ) → (about (position a)).range ≡ Span low high → in_range (position a) v ≡ true → Ends a low high v
+-- the ends of a span that has a value; they are small enough for the code
+pub record Ends (low high v : ℤ) : Type 0 where
+  pub above : low ≤ℤ v
+  pub under : v ≤ℤ high
+  pub lowest : to_z w32 (of_z w32 low) ≡ low
+  pub highest : to_z w32 (of_z w32 high) ≡ high
+
+ends_of : (a : Axis) (low high v : ℤ) → (about (position a)).range ≡ Span low high → low ≤ℤ v → v ≤ℤ high → Ends low high v
+ends_of a low high v e above under =
+    let l = small (position a) low (spanned a low high low e (omega (arith, ints)) (omega (arith, ints))) in
+    let h = small (position a) high (spanned a low high high e (omega (arith, ints)) (omega (arith, ints))) in
+    record { above = above; under = under; lowest = omega (arith, ints); highest = omega (arith, ints) }
+
+pub ends : (a : Axis) (low high v : ℤ) → (about (position a)).range ≡ Span low high → in_range (position a) v ≡ true → Ends low high v
 unfolding in_range
 ends a low high v e r =
     let k : (le_z low v && le_z v high) ≡ true = simp e at r in
     let (p, q) = and_parts (le_z low v) (le_z v high) k in
-    record {
-      above = omega (arith, ints);
-      under = omega (arith, ints);
-      lowest = simp e (grind (arith, ints));
-      highest = simp e (grind (arith, ints));
-    }
-
-fits : (a : Axis) (v : ℤ) → in_range (position a) v ≡ true → to_z w32 (of_z w32 v) ≡ v
-fits a v h = let s = small (position a) v h in omega (arith, ints)
-
--- a drive may take a position to the end of its range, which the code has as a number of 32 bits
-pub record Reached (a : Axis) (d v w : ℤ) : Type 0 where
-  pub driven : Driven d v (to_z w32 (of_z w32 w))
-  pub ranged : in_range (position a) (to_z w32 (of_z w32 w)) ≡ true
-
-module _ (a : Axis) (low high v d : ℤ) (e : (about (position a)).range ≡ Span low high) (r : in_range (position a) v ≡ true) where
-  pub lowest_reached : d <ℤ pos 0 → Reached a d v low
-  lowest_reached h =
-      let b = ends a low high v e r in
-      let above = b.above in
-      let is = fits a low b.lowest in
-      record { driven = rw is (record { rises = λ p. absurd (omega (arith, ints)); falls = λ p. above; stands = λ p. absurd (omega (arith, ints)) }); ranged = rw is b.lowest }
-
-  pub highest_reached : pos 0 <ℤ d → Reached a d v high
-  highest_reached h =
-      let b = ends a low high v e r in
-      let under = b.under in
-      let is = fits a high b.highest in
-      record { driven = rw is (record { rises = λ p. under; falls = λ p. absurd (omega (arith, ints)); stands = λ p. absurd (omega (arith, ints)) }); ranged = rw is b.highest }
+    ends_of a low high v e (omega (arith, ints)) (omega (arith, ints))
 
 -- part of the way that a drive goes is one that it may go
 pub driven_part : (d v w end : ℤ) → Driven d v end → Between v w end → Driven d v w

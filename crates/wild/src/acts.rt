@@ -16,6 +16,7 @@ use head::{Endings, Head, Look, Order, Refusal, Setting, Settings, admit};
 impl Wild {
     /// A head with pan and tilt or without, its settings at their first values, both slots idle.
     pub fn new(seed: u32, pan_tilt: bool) -> Wild
+        ensures dice { result.dice.state ≡ seed }
         ensures pan_tilt { result.pan_tilt ≡ pan_tilt }
         ensures settings { (s : S) → value_of result.settings s ≡ (about s).first }
         ensures slots { slots_of result ≡ record { one = idle; two = idle } }

@@ -36,7 +36,7 @@ impl Dice {
         let whole = from.abs_diff(to);
         let part = self.roll(whole);
         // mostly none of it, so that some come early and some late
-        let way = match self.roll(100) {
+        let way = match self.roll(300) {
             0 => whole,
             1..=9 => part,
             _ => 0,

@@ -1,6 +1,6 @@
 //! A tick of the wild head: how each order ends, and where each setting goes.
 
-ghost use Rattle.std.specs.Prelude.{◌≡◌, true};
+ghost use Rattle.std.specs.Prelude.{◌≡◌, true, ◌≤ℤ◌};
 ghost use Rattle.head.specs.declared.setting.Setting.{Setting as S};
 ghost use Rattle.head.specs.Settings.{about, in_range, position, drive};
 ghost use Rattle.head.specs.Meaning.{busy, wanted, SlotTicked, Driven, Ticked};
@@ -12,6 +12,7 @@ use crate::dice::Dice;
 use crate::wild::Wild;
 use crate::work::Work;
 use head::{Axis, Ending, Endings, Range, Setting, Settings};
+use std::cmp::Ordering;
 
 impl Work {
     // What a tick leaves of it: one tick fewer, and nothing after the last.
@@ -42,17 +43,32 @@ fn ending(work: Option<Work>, dice: &mut Dice) -> Option<Ending>
     }
 }
 
+// How far a drive may take a position of this span: to the end on its side.
+fn driven_to(drive: i32, low: i32, high: i32, from: i32) -> i32
+    requires above { low ≤ℤ from }
+    requires under { from ≤ℤ high }
+    ensures driven { Driven drive from result }
+    ensures above { low ≤ℤ result }
+    ensures under { result ≤ℤ high }
+{
+    match drive.cmp(&0) {
+        Ordering::Less => low,
+        Ordering::Equal => from,
+        Ordering::Greater => high,
+    }
+}
+
 impl Wild {
-    // How far the drive of an axis may take its position: to an end of the range.
+    // How far the drive of an axis may take its position.
     fn drive_end(&self, axis: Axis) -> i32
         ensures driven { Driven (value_of self.now.settings (drive axis)) (value_of self.now.settings (position axis)) result }
         ensures ranged { in_range (position axis) result ≡ true }
     {
+        let from = self.settings.get(axis.position());
         let drive = self.settings.get(axis.drive());
         match axis.position().range() {
-            Range::Span(low, _) if drive < 0 => low,
-            Range::Span(_, high) if drive > 0 => high,
-            _ => self.settings.get(axis.position()),
+            Range::Span(low, high) => driven_to(drive, low, high, from),
+            _ => from,
         }
     }
 
