@@ -5,10 +5,18 @@
 #[cfg(test)]
 mod answers;
 #[cfg(test)]
+mod dealer;
+#[cfg(test)]
 mod dome;
 #[cfg(test)]
 mod orders;
 #[cfg(test)]
+mod played;
+#[cfg(test)]
 mod ranges;
 #[cfg(test)]
+mod runs;
+#[cfg(test)]
 mod starts;
+#[cfg(test)]
+mod strangers;

@@ -4,7 +4,7 @@ use head::{NoSuchSetting, Setting};
 use std::test::Fail;
 
 // A setting's number, its lowest and its highest value.
-const SPANS: [(u8, i32, i32); 22] = [
+pub const SPANS: [(u8, i32, i32); 22] = [
     (0, 2, 3),
     (1, 0, 0x4000),
     (2, -8, 8),

@@ -1,0 +1,3 @@
+pub mod Dice
+pub mod Works
+pub mod Wilds

@@ -1,0 +1,37 @@
+-- The wild head as what a head means, and what a tick asks of one setting.
+use Rattle.std.specs.Prelude.{◌≡◌, true, ℤ, Some, None, Option}
+use Rattle.head.specs.declared.outcome.Ending.{Ending}
+use Rattle.head.specs.declared.outcome.Endings.{Endings}
+use Rattle.head.specs.declared.setting.Axis.{Axis}
+use Rattle.head.specs.declared.setting.Setting.{Setting}
+use Rattle.head.specs.Settings.{about, in_range, drive}
+use Rattle.head.specs.Meaning.{Slots, Meaning, Pulled, Driven, wanted, Unnamed}
+use Rattle.head.specs.Values.{value_of}
+use Rattle.wild.specs.declared.wild.Wild.{Wild}
+use Rattle.wild.specs.Works.{slot_of}
+
+abbrev pub slots_of : Wild → Slots
+slots_of h = record { one = slot_of h.one; two = slot_of h.two }
+
+abbrev pub means : Wild → Meaning
+means h = record { setting = value_of h.settings; pantilt = h.pan_tilt; slots = slots_of h }
+
+-- where an order that fared as e takes a setting from v: nowhere if it wants nothing of it, and else where every head's may
+abbrev pub Leads : Option ℤ → Option Axis → Option Ending → ℤ → Option ℤ → Type 0
+Leads None x e v r = r ≡ None
+Leads (Some t) x e v None = ⊥
+Leads (Some t) x e v (Some w) = Pulled x e v t w
+
+-- a setting that no order names, from f to w: a position follows its drive, another stands
+pub record Alone (f : Setting → ℤ) (s : Setting) (w : ℤ) : Type 0 where
+  pub ranged : in_range s w ≡ true
+  pub driven : (a : Axis) → (about s).axis ≡ Some a → Driven (f (drive a)) (f s) w
+  pub stands : (about s).axis ≡ None → w ≡ f s
+
+-- what every head's tick that tells e asks of one setting, which it takes to w
+pub record Goes (m : Meaning) (e : Endings) (s : Setting) (w : ℤ) : Type 0 where
+  pub ranged : in_range s w ≡ true
+  pub by_one : (t : ℤ) → wanted m.slots.one s ≡ Some t → Pulled (about s).axis e.one (m.setting s) t w
+  pub by_two : (t : ℤ) → wanted m.slots.two s ≡ Some t → Pulled (about s).axis e.two (m.setting s) t w
+  pub driven : (a : Axis) → Unnamed m s → (about s).axis ≡ Some a → Driven (m.setting (drive a)) (m.setting s) w
+  pub stands : Unnamed m s → (about s).axis ≡ None → w ≡ m.setting s
