@@ -1,7 +1,7 @@
 //! Lists of calls, played on an end over the wild head, and made on it one by one.
 
 use crate::dealer::Dealer;
-use crate::ranges::SPANS;
+use crate::ranges::{GAPS, SPANS};
 use crate::runs::calls_of;
 use end::{Call, End, ROOM, bytes_sent, play};
 use head::Look;
@@ -15,6 +15,9 @@ fn in_range(rt: &impl Abort, head: &impl Look) {
         let value = head.look(number);
         assert!(rt; value.is_some_and(|value| low <= value && value <= high));
     }
+    for (number, value) in GAPS {
+        assert!(rt; head.look(number) != Some(value));
+    }
 }
 
 // The sockets that the end tells are open are those that the dealer takes for open.
@@ -24,8 +27,8 @@ fn agree(rt: &impl Abort, end: &End<Wild>, dealer: &Dealer) {
     assert_eq!(rt; open.two, dealer.two.is_some());
 }
 
-// Makes a call with a buffer of this length, has the dealer hear what it sends, and tells how much
-// that was. What was sent has to stand at the front of the log.
+// Makes a call with a buffer as long as the log, or of 16 bytes if that is longer, has the dealer hear
+// what it sends, and tells how much that was. It has to stand at the front of the log.
 fn make_call(
     rt: &impl Abort,
     end: &mut End<Wild>,

@@ -30,7 +30,7 @@ pub const SPANS: [(u8, i32, i32); 22] = [
 ];
 
 // Values inside the span of a setting with a list that are not on the list.
-const GAPS: [(u8, i32); 6] = [(6, 4), (9, 1), (9, 2), (9, 4), (9, 9), (9, 12)];
+pub const GAPS: [(u8, i32); 6] = [(6, 4), (9, 1), (9, 2), (9, 4), (9, 9), (9, 12)];
 
 #[test]
 fn spans(rt: HostRuntime) -> Result<(), Fail> {
