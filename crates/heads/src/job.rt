@@ -1,7 +1,6 @@
 //! An order at work in a slot.
 
 ghost use Rattle.std.specs.Prelude.{◌≡◌, ◌≤◌, true};
-ghost use Rattle.head.specs.Meaning.{};
 ghost use Rattle.head.specs.Orders.{parts, all_in_range};
 
 use head::Order;
