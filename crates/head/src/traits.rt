@@ -11,6 +11,7 @@ ghost use Rattle.head.specs.Meaning.{Slots, at, Timed, view, answered, left_of, 
 use crate::order::Order;
 use crate::outcome::{Endings, Refusal};
 
+/// What can be looked at: a value in range for each of the 22 settings, and whether there is pan and tilt.
 pub trait Look {
     ghost setting: { Self → Setting → ℤ };
 
@@ -27,12 +28,13 @@ pub trait Look {
     ghost ranged: { (x : Self) (s : Setting) → in_range s (setting x s) ≡ true };
 }
 
+/// A camera head: what can be looked at, and has two slots, 1 and 2, for orders at work.
 pub trait Head: Look {
     ghost slots: { Self → Slots };
 
     // Each promise writes its view out: a member for it could be given another meaning, and a definition
-    // over the record of `Look` is an import cycle (tried). A slot is a number here and no enum: one that
-    // is neither 1 nor 2 is answered, and asks nothing of callers.
+    // over the record of `Look` would be an import cycle. A slot is a number here and no enum, so that one
+    // that is neither 1 nor 2 is answered, and callers have nothing to show.
 
     /// The ticks left of the slot's order; 0 if the slot is idle or is neither 1 nor 2.
     fn ticks_left(&self, slot: u8) -> u16

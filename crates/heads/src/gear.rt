@@ -20,6 +20,7 @@ pub trait Gear {
     /// Whether it has pan and tilt.
     const PAN_TILT: bool;
 
+    /// How it moves positions.
     fn motion(&self) -> Motion
         ensures { result ≡ motion self.now };
 

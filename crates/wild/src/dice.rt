@@ -11,6 +11,7 @@ pub struct Dice {
 }
 
 impl Dice {
+    /// Dice that begin at this seed.
     pub fn new(seed: u32) -> Dice
         ensures { result.state ≡ seed }
     {
@@ -25,7 +26,7 @@ impl Dice {
         ensures next { self.new.state ≡ stirred self.old.state }
     {
         self.state = self.state.wrapping_mul(1664525).wrapping_add(1013904223);
-        // the lower digits of such numbers repeat too soon
+        // The lower digits of such numbers repeat too soon.
         (self.state >> 8) % sides.max(1)
     }
 
@@ -35,7 +36,7 @@ impl Dice {
     {
         let whole = from.abs_diff(to);
         let part = self.roll(whole);
-        // mostly none of it, so that some come early and some late
+        // Mostly none of it, so that some come early and some late.
         let way = match self.roll(300) {
             0 => whole,
             1..=9 => part,
