@@ -65,8 +65,8 @@ abbrev pub ticks_in : List Entry → ℕ
 ticks_in [] = 0
 ticks_in (e ∷ later) = ticks_in later + counted e.call e.room
 
--- In any run, a command that is open by the book is over before 1,000 ticks more are accepted: its ending was sent, or the line
--- was cleared or the address set anew.
+-- In any run, a command that is open by the book is over at the latest with the 1,000th tick that is accepted from then on: its
+-- ending was sent, or the line was cleared or the address set anew.
 abbrev pub EveryAcknowledgedCommandIsEnded : Type 0
 EveryAcknowledgedCommandIsEnded =
     (m : Meaning) (h later : List Entry) (s : State) → Run m (later ++ h) s →
