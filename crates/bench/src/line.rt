@@ -10,8 +10,7 @@ pub enum Kind {
     StalledDome,
 }
 
-/// The length of a buffer for the bytes that a call sends, at most 64. It stands beside no buffer: the
-/// script names the length, and the call gets a buffer of it.
+/// The length of the buffer that a call gets, at most 64.
 #[derive(Clone, Copy, Debug, PartialEq, Eq)]
 pub struct Room {
     pub len: usize,
@@ -24,7 +23,7 @@ pub const USUAL: Room = Room { len: 16 };
 /// A line that is understood.
 #[derive(Debug, PartialEq, Eq, Drop)]
 pub enum Line {
-    /// Understood too: it makes no call, where a text that is no line is answered.
+    /// Nothing, or a comment alone: it makes no call and writes nothing.
     Blank,
     Head(Kind),
     Byte(u8, Room),

@@ -36,8 +36,7 @@ fn times(word: &str) -> Option<u32>
     at_most(10000, word).filter(|times| *times > 0)
 }
 
-// Any line but one of bytes to send. A head is one word or two of those that are split here, so that
-// reading it from one text, as `FromStr` does, would be no plainer.
+// Any line but one of bytes to send.
 fn call(words: &[&str]) -> Option<Line> {
     match words {
         [] => Some(Line::Blank),

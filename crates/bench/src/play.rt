@@ -55,7 +55,6 @@ fn ticks<H: Head>(rt: &impl Print, end: &mut End<H>, times: u32, room: Room) -> 
     tell_each(rt, room, 0..times, |_, out| end.tick(out))
 }
 
-// Two answers side by side; words for them alone need no type.
 fn open(rt: &impl Print, sockets: OpenSockets) -> io::Result<()> {
     let text = match (sockets.one, sockets.two) {
         (true, true) => "1 2",
@@ -83,7 +82,6 @@ fn slots<H: Head>(rt: &impl Print, head: &H) -> io::Result<()> {
 /// a new one, made from the head.
 pub fn play<H: Head + Drop>(rt: &impl Print, end: End<H>, line: Line) -> io::Result<End<H>> {
     let mut end = end;
-    // A match over lines and no closures: a script is read before there is an end to call.
     match line {
         Line::Blank => {}
         Line::Head(_) => not_understood(rt)?,

@@ -72,7 +72,7 @@ fn drives(rt: HostRuntime) -> Result<(), Fail> {
         let mut dome = Dome::new(false);
         let mut stalled = Dome::new(true);
         assert!(rt; dome.start(2, order).is_ok() && stalled.start(2, order).is_ok());
-        // the drive has its value once the order is done, and moves from the next tick on
+        // The drive has its value once the order is done, and moves from the next tick on.
         assert_eq!(rt; dome.tick().two, Some(Ending::Done));
         assert_eq!(rt; stalled.tick().two, Some(Ending::Done));
         assert_eq!(rt; dome.look(position.number()), Some(0));

@@ -109,7 +109,7 @@ fn lists_of_calls(rt: HostRuntime) -> Result<(), Fail> {
             assert!(rt; count > 100 - ROOM, "no call was refused");
         }
     }
-    // none of this was without cases
+    // The runs saw enough of each.
     assert!(rt; dealer.opened >= 1000 && dealer.cancelled >= 100);
     assert!(rt; dealer.done >= 100 && dealer.jammed >= 100);
     assert!(rt; dealer.longest >= 900);

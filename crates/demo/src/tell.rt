@@ -58,7 +58,7 @@ fn tell_view(rt: &impl Print, head: &impl Look, ticks: u32) -> io::Result<()> {
     println!(rt; "  camera    after {ticks} tick{plural}: pan {pan}, tilt {tilt}, zoom {zoom}")
 }
 
-/// Plays the steps in turn. They are data and no closures: the lecture is a table to be read.
+/// Plays the steps in turn.
 pub fn play<H: Head>(rt: &impl Print, end: &mut End<H>, steps: &[Step]) -> io::Result<()> {
     for step in steps {
         match *step {

@@ -47,7 +47,7 @@ pub fn play<H: Head>(head: H, calls: &[Call], log: &mut [u8]) -> (End<H>, usize)
 {
     let mut end = End::make(head);
     let mut count = 0;
-    // No fold: its closure cannot know that the count is within the log (`log_call-requires` stays open).
+    // No fold: its closure cannot know that the count is within the log.
     for call in calls {
         count += log_call(&mut end, *call, log, count);
     }

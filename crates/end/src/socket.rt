@@ -39,7 +39,7 @@ pub(crate) enum Which {
 }
 
 impl Which {
-    /// The socket with this number on the line, if there is one; no `TryFrom`, whose error nobody reads.
+    /// The socket with this number on the line, if there is one.
     pub(crate) fn numbered(number: u8) -> Option<Which>
         ensures { result ≡ numbered number }
     {

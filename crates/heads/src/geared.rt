@@ -23,7 +23,7 @@ pub struct Geared<G: Gear> {
     ghost on_time: { G.motion gear ≡ Stepwise → OnTime (means G.PAN_TILT rig) },
 }
 
-// A line each: what a rig does needs no gear but its motion, so its code and proofs name none.
+// The rig does it all. It keeps the gear's motion and needs nothing more of it, so its code and proofs name no gear.
 impl<G: Gear> Look for Geared<G> {
     ghost setting = { λ h. value_of h.rig.settings };
 

@@ -5,7 +5,7 @@ ghost use Rattle.heads.specs.Motion.{unit as unit_of, pace as pace_of, step as s
 
 use head::{Axis, Paces, Range};
 
-/// How a head moves positions. An enum and no closure, so that contracts can tell what each comes to.
+/// How a head moves positions.
 #[derive(Clone, Copy, Debug, PartialEq, Eq)]
 pub enum Motion {
     /// An order's to their targets in one tick.
@@ -58,7 +58,7 @@ pub(crate) fn held(range: Range, value: i32) -> i32
     ensures { result ≡ held_to range value }
 {
     match range {
-        // No `clamp`: tried, but it asks for low <= high, and a range does not promise that.
+        // No `clamp`: it asks for low <= high, which a range does not promise.
         Range::Span(low, high) => value.max(low).min(high),
         _ => value,
     }

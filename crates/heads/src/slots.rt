@@ -37,9 +37,6 @@ impl Rig {
             .map(|setting| self.settings.get(setting))
     }
 
-    // Three matches on a slot's number: one asks, one fills, one empties, and each has its own answer where
-    // there is no such slot.
-
     /// The ticks left of a slot.
     pub(crate) fn ticks_left(&self, slot: u8) -> u16
         ensures { result ≡ left_of (slot_at (slots_of self.now) slot) }

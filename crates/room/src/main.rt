@@ -1,5 +1,5 @@
-//! A lecture room: a dome is sent to the lectern, follows the speaker by its drive, and a dome
-//! that is stalled jams.
+//! A lecture room, the heads alone: a dome is sent to the lectern and follows the speaker by its
+//! drive, a dome that is stalled jams, and a block zooms.
 
 #![tactic(auto)]
 

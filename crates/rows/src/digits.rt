@@ -32,7 +32,6 @@ fn bits(value: i32) -> u16
 pub(crate) fn digits(value: i32) -> [u8; 4]
     ensures { Small value → result ≡ digits_of (bits_of value) }
 {
-    // By division: the library knows decimal digits alone.
     let n = bits(value);
     [
         (n / 4096) as u8,

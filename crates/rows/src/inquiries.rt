@@ -72,6 +72,5 @@ pub const INQUIRIES: [InquiryRow; 7] = [
 pub fn read_inquiry(body: &[u8]) -> Result<(usize, Inquiry), RowFault>
     ensures { result ≡ inquiry_read body.now }
 {
-    // One search; this names the table, as `read_command` does its own.
     find_row(&INQUIRIES, body)
 }

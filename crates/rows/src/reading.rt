@@ -191,7 +191,6 @@ impl OperandForm for Operands {
     ghost makes = { reads };
 
     fn read(&self, setting: Setting, operands: &[u8]) -> Option<Order> {
-        // A match and no table of functions: each form has operands of its own number.
         match (*self, operands) {
             (Operands::Digit, &[p]) => digit(setting, p),
             (Operands::Drive(sense), &[b]) => driven(sense, setting, b),

@@ -121,7 +121,7 @@ impl Wild {
     {
         let mut settings = self.settings;
         for setting in Setting::ALL {
-            // it is never out of range
+            // It is never out of range, so nothing is lost.
             let _ = settings.set(setting, self.step(endings, setting, dice));
         }
         settings
