@@ -2,12 +2,11 @@
 use Rattle.std.proofs.Common.{◌≡◌, ℕ, zero, suc, ◌+◌, ◌<◌, Bool, true, cond, ◌&&◌, eqb, get_or, ℤ, Some, None, Option, sym, refl, ap, ◌∙◌, subst, arith}
 use Rattle.std.proofs.lemmas.Bool.{eqb-true, eqb-false}
 use Rattle.std.proofs.lemmas.Option.{get_or_from_slice_get, slice_get_within}
-use Rattle.std.specs.Option.{option_map}
 use Rattle.std.proofs.lemmas.Bool.Decides.{Decides-below_and}
 use Rattle.head.specs.declared.setting.Setting.{Setting}
 use Rattle.head.specs.declared.setting.Setting.TheVariants.{Power}
 use Rattle.head.specs.declared.setting.Axis.{Axis}
-use Rattle.head.specs.Settings.{about, all, number, numbered, looked, same, position}
+use Rattle.head.specs.Settings.{about, all, number, numbered, same, position}
 
 abbrev pub all_below : (ℕ → Bool) → ℕ → Bool
 all_below p zero = true
@@ -43,10 +42,6 @@ same_is s z h = sym (in_place s) ∙ ap (λ (n : ℕ). get_or all n Power) (eqb-
 pub number_at : (k : ℕ) → k < 22 → number (get_or all k Power) ≡ k
 number_at k h =
     eqb-true (number (get_or all k Power)) k (each_below (λ n. eqb (number (get_or all n Power)) n) 22 refl k h)
-
--- looking at a setting's number tells its value
-pub looked_is : (f : Setting → ℤ) (s : Setting) → looked f (number s) ≡ Some (f s)
-looked_is f s = ap (option_map f) (numbered_is s)
 
 -- one setting more that a loop over the table has given its value
 pub passed_more : (k : ℕ) (x : Setting) (taken : Bool) (w : ℤ) (old new g : Setting → ℤ) → number x ≡ k → taken ≡ true → w ≡ g x

@@ -1,8 +1,8 @@
 -- A tick of our heads is one of every head.
-use Rattle.std.proofs.Common.{◌≡◌, ℕ, ◌-◌, Bool, true, false, cond, ◌&&◌, ltb, ℤ, pos, negsuc, ◌+ℤ◌, ◌*ℤ◌, ◌≤ℤ◌, ◌<ℤ◌, is_some, Some, None, Option, sym, refl, ap, ◌∙◌, subst, arith}
+use Rattle.std.proofs.Common.{◌≡◌, ℕ, Bool, true, false, cond, ◌&&◌, ltb, ℤ, pos, negsuc, ◌+ℤ◌, ◌*ℤ◌, ◌≤ℤ◌, ◌<ℤ◌, is_some, Some, None, Option, sym, refl, ap, ◌∙◌, subst, arith}
 use lib.Signed.{le_z}
 use Rattle.std.proofs.lemmas.Int.{ints, clamps}
-use Rattle.std.proofs.lemmas.Bool.{and_parts, cond_both, ltb-true, ltb-false}
+use Rattle.std.proofs.lemmas.Bool.{and_parts, ltb-true, ltb-false}
 use Rattle.std.proofs.Math.Bool.{and_comm}
 use Rattle.std.specs.Int.{int_min, int_max}
 use Rattle.head.specs.declared.order.Order.{Order}
@@ -176,17 +176,5 @@ foretold_is m idle f f' h = refl
 foretold_is m (busy o n) f f' h =
     simp (reaches_there m o n f f' Zoom h, reaches_there m o n f f' Focus h, reaches_there m o n f f' Pan h, reaches_there m o n f f' Tilt h)
 
--- What a tick leaves in the slots names no more than before.
-
-left_apart : (b : Slot) (s : Setting) (x : Option ℤ) → (is_some (wanted b s) && is_some x) ≡ false → (is_some (wanted (rest b) s) && is_some x) ≡ false
-left_apart idle s x h = h
-left_apart (busy o n) s x h =
-    cond_both (ltb 1 n) (busy o (n - 1)) idle (λ y. (is_some (wanted y s) && is_some x) ≡ false) (λ _. h) (λ _. refl)
-
 pub apart_sym : (a b : Slot) → Apart a b → Apart b a
 apart_sym a b h s = and_comm (is_some (wanted b s)) (is_some (wanted a s)) ∙ h s
-
-pub rest_apart : (a b : Slot) → Apart a b → Apart (rest a) (rest b)
-rest_apart a b h =
-    let k : Apart (rest a) b = λ s. left_apart a s (wanted b s) (h s) in
-    apart_sym (rest b) (rest a) (λ s. left_apart b s (wanted (rest a) s) (apart_sym (rest a) b k s))

@@ -1,4 +1,3 @@
-pub mod Options
 pub mod Axes
 pub mod Spans
 pub mod Drives
