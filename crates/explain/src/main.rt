@@ -11,14 +11,19 @@ use hexadecimal::{Hex, byte};
 use packet::explain_packet;
 use std::alloc::{AllocError, Global};
 use std::io;
+use std::io::{BufRead, BufReader};
+use std::str::from_utf8;
 use wire::{Framer, FramingFault, Packet};
 use words::explain_fault;
 
 // How many bytes a line has room for.
 const ROOM: usize = 64;
 
-// The bytes of a line, or none if a word is no byte or if they are too many.
-fn parse(heap: Global, line: &str) -> Result<Option<Vec<u8>>, AllocError> {
+// The bytes of a line, or none if it is no text, if a word is no byte, or if they are too many.
+fn parse(heap: Global, line: &[u8]) -> Result<Option<Vec<u8>>, AllocError> {
+    let Ok(line) = from_utf8(line) else {
+        return Ok(None);
+    };
     let bytes: Option<Vec<u8>> = line.split_whitespace().map(byte).collect(heap)?;
     Ok(bytes.filter(|bytes| bytes.len() <= ROOM))
 }
@@ -47,7 +52,7 @@ fn explain(rt: &impl Print, bytes: &[u8]) -> io::Result<()> {
     println!(rt; "no whole packet")
 }
 
-fn explain_line(rt: &impl Print, heap: Global, line: &str) -> io::Result<()> {
+fn explain_line(rt: &impl Print, heap: Global, line: &[u8]) -> io::Result<()> {
     let Some(bytes) = parse(heap, line)? else {
         return println!(rt; "not understood");
     };
@@ -60,8 +65,8 @@ fn explain_line(rt: &impl Print, heap: Global, line: &str) -> io::Result<()> {
 
 fn main(rt: HostRuntime) -> io::Result<()> {
     let heap = rt.alloc();
-    for line in rt.lines(heap) {
-        explain_line(&rt, heap, line?.as_str())?;
+    for line in BufReader::new(heap, rt.stdin())?.split(heap, b'\n') {
+        explain_line(&rt, heap, line?.as_slice())?;
     }
     Ok(())
 }
