@@ -1,8 +1,7 @@
 -- What each outcome of a whole packet leaves of the tie between book, end and head.
-use Rattle.std.proofs.Common.{◌≡◌, ℕ, pos, negsuc, ◌+◌, ◌/◌, ◌%◌, ◌≤◌, Bool, true, false, cond, not, ◌&&◌, eqb, List, [], ◌∷◌, ◌++◌, ℤ, Some, None, Ok, Err, Option, Result, sym, refl, ap, ◌∙◌, subst, arith}
+use Rattle.std.proofs.Common.{◌≡◌, ℕ, ◌+◌, ◌/◌, ◌%◌, ◌≤◌, Bool, true, false, cond, not, ◌&&◌, eqb, List, [], ◌∷◌, ◌++◌, ℤ, Some, None, Ok, Err, Option, Result, sym, refl, ap, ◌∙◌, subst, arith}
 use Rattle.std.proofs.Math.Bool.{and-false}
 use Rattle.std.proofs.lemmas.Bool.{eqb-true, ne_eqb, or_parts}
-use Rattle.std.proofs.lemmas.Int.{ints}
 use Rattle.std.proofs.lemmas.List.{append-nil}
 use Rattle.end.specs.declared.socket.Sockets.{Sockets}
 use Rattle.end.specs.Book.{Seen, closed, working, other as nothing_said}
@@ -11,13 +10,14 @@ use Rattle.end.specs.Law.{ordered, read_as}
 use Rattle.end.specs.Outcomes.{Outcome, own_header, own, sends, does, taken, requested, cancelled}
 use Rattle.end.specs.Sockets.{full, free, powering_in, meets, socket_at}
 use Rattle.end.specs.States.{State}
+use Rattle.end.proofs.Asked.{told_plain}
 use Rattle.end.proofs.Heard.{Whole, whole}
 use Rattle.end.proofs.Ruled.{Foreign}
 use Rattle.end.proofs.Spoken.{Plain, Read, behind, said, read_none, read_own_other, read_foreign}
 use Rattle.end.proofs.Tied.{Tied, rests, works, After, after_read, after_owns}
 use Rattle.head.specs.declared.order.Order.{Order}
 use Rattle.head.specs.declared.setting.Setting.{Setting}
-use Rattle.head.specs.declared.setting.Setting.TheVariants.{Pan, Tilt}
+use Rattle.head.specs.declared.setting.Setting.TheVariants.{Pan}
 use Rattle.head.specs.Meaning.{Meaning, Slot, Slots, idle, busy, order_in, reason, refusal, in_use, Holds}
 use Rattle.head.specs.Orders.{parts, all_in_range, any_pan_tilt}
 use Rattle.head.specs.Settings.{Small}
@@ -28,7 +28,6 @@ use Rattle.rows.specs.declared.inquiries.Inquiry.{Inquiry}
 use Rattle.rows.specs.declared.request.Request.{Request}
 use Rattle.rows.specs.declared.request.Request.TheVariants.{Command, Ask}
 use Rattle.rows.specs.Answers as inquiry
-use Rattle.rows.specs.Digits.{bits, digits}
 use Rattle.rows.specs.Requests.{read_body}
 use Rattle.rows.proofs.Ranged.{body_in_range}
 use Rattle.rules.specs.declared.reply.Problem.TheVariants.{Syntax, BufferFull, Cancelled as CancelledCommand, NoSocket, NotExecutable}
@@ -57,23 +56,6 @@ no_reason_two pt q o fit apart = rw (fit.ranged, fit.able, apart) refl
 no_reason_idle : (m : Meaning) (pt : Bool) (y : ℕ) (o : Order) → m.pantilt ≡ pt → m.slots ≡ record { one = idle; two = idle } → reason pt None None y o ≡ 0 → refusal m y o ≡ 0
 no_reason_idle m pt y o e h r =
     ap (λ (s : Slots). reason m.pantilt (order_in s.one) (order_in s.two) y o) h ∙ ap (λ (q : Bool). reason q None None y o) e ∙ r
-
--- Digits are no FF.
-
-digit : (n : ℕ) → eqb (n % 16) 0xff ≡ false
-digit n = ne_eqb (n % 16) 0xff (λ e. omega arith)
-
-first_digit : (n : ℕ) → n ≤ 65535 → eqb (n / 4096) 0xff ≡ false
-first_digit n few = ne_eqb (n / 4096) 0xff (λ e. omega arith)
-
-few_bits : (v : ℤ) → Small v → bits v ≤ 65535
-few_bits (pos n) h = let few = h.high in omega (arith, ints)
-few_bits (negsuc n) h = omega arith
-
-digits_plain : (v : ℤ) (rest : List ℕ) → Small v → Plain rest → Plain (digits (bits v) ++ rest)
-digits_plain v rest small h =
-    let n = bits v in
-    (first_digit n (few_bits v small), (digit (n / 256), (digit (n / 16), (digit n, h))))
 
 module _ (f : Setting → ℤ) (pt : Bool) (a : ℕ) (p sent : List ℕ) (s' : State) (low : a ≤ 7) where
   abbrev head_of : Slot → Slot → Meaning
@@ -105,11 +87,11 @@ module _ (f : Setting → ℤ) (pt : Bool) (a : ℕ) (p sent : List ℕ) (s' : S
 
   -- a packet that another sent, sent on
   pub passed : {q : List ℕ} {l₁ l₂ : Seen} {x₁ x₂ : Option Order} {c₁ c₂ : Slot} → Whole q → Foreign a q → Tied l₁ x₁ c₁ → Tied l₂ x₂ c₂ → Done (sends a q) x₁ x₂ c₁ c₂ → After a p l₁ l₂ sent f s'
-  passed {l₁ = l₁} {l₂ = l₂} (whole h t plain) e t₁ t₂ d =
+  passed {l₁ = l₁} {l₂ = l₂} (whole h t plain _) e t₁ t₂ d =
       quiet (h ∷ (t ++ 0xff ∷ [])) (read_foreign a 1 h p t l₁ low plain e) (read_foreign a 2 h p t l₂ low plain e) t₁ t₂ d
 
   pub wiped_passed : {q : List ℕ} (x₁ x₂ : Option Order) (c₁ c₂ : Slot) → Whole q → Foreign a q → Done (does a clears q) x₁ x₂ c₁ c₂ → After a p closed closed sent f s'
-  wiped_passed x₁ x₂ c₁ c₂ (whole h t plain) e d =
+  wiped_passed x₁ x₂ c₁ c₂ (whole h t plain _) e d =
       wiped (h ∷ (t ++ 0xff ∷ [])) x₁ x₂ c₁ c₂ a (read_foreign a 1 h p t closed low plain e) (read_foreign a 2 h p t closed low plain e) d
 
   -- the next address, for the ends behind; it is no own packet of an end with the address w
@@ -243,19 +225,9 @@ module _ (f : Setting → ℤ) (pt : Bool) (a : ℕ) (p sent : List ℕ) (s' : S
         replied (Error y NoSocket) (no_socket_said 1 y) (no_socket_said 2 y) t₁ t₂ (subst (λ (o : Outcome). Done o x₁ x₂ c₁ c₂) r d)
 
     -- an inquiry
-    pan_tilt_plain : ((t : Setting) → Small (f t)) → (b : Bool) → Plain (inquiry.told PanTilt f Pan b)
-    pan_tilt_plain small true = (refl, digits_plain (f Pan) (digits (bits (f Tilt))) (small Pan) (digits_plain (f Tilt) [] (small Tilt) tt))
-    pan_tilt_plain small false = (refl, (refl, tt))
-
     pan_tilt_other : (b : Bool) → (behind 1 (inquiry.told PanTilt f Pan b ++ 0xff ∷ []) ≡ nothing_said) × (behind 2 (inquiry.told PanTilt f Pan b ++ 0xff ∷ []) ≡ nothing_said)
     pan_tilt_other true = (refl, refl)
     pan_tilt_other false = (refl, refl)
-
-    told_plain : ((t : Setting) → Small (f t)) → (form : Form) (q : Setting) → Plain (inquiry.told form f q pt)
-    told_plain small Digit q = (refl, (digit (bits (f q)), tt))
-    told_plain small Level q = (refl, (refl, (refl, (digit (bits (f q) / 16), (digit (bits (f q)), tt)))))
-    told_plain small Number q = (refl, digits_plain (f q) [] (small q) tt)
-    told_plain small PanTilt q = pan_tilt_plain small pt
 
     told_other : (form : Form) (q : Setting) → (behind 1 (inquiry.told form f q pt ++ 0xff ∷ []) ≡ nothing_said) × (behind 2 (inquiry.told form f q pt ++ 0xff ∷ []) ≡ nothing_said)
     told_other Digit q = (refl, refl)
@@ -267,7 +239,7 @@ module _ (f : Setting → ℤ) (pt : Bool) (a : ℕ) (p sent : List ℕ) (s' : S
         Done (sends a (inquiry.answered (own_header a) q f pt)) x₁ x₂ c₁ c₂ → After a p l₁ l₂ sent f s'
     inquire {l₁} {l₂} q small t₁ t₂ d =
         let t = inquiry.told q.form f q.setting pt in
-        let plain = told_plain small q.form q.setting in
+        let plain = told_plain f pt small q.form q.setting in
         quiet (own_header a ∷ (t ++ 0xff ∷ []))
         (read_own_other a 1 p t l₁ low has plain (told_other q.form q.setting).0)
         (read_own_other a 2 p t l₂ low has plain (told_other q.form q.setting).1) t₁ t₂ d

@@ -10,7 +10,7 @@ use Rattle.end.specs.Faults.{Answer, counts}
 use Rattle.end.specs.Law.{Run, Law, InOrder, Due, InTime, open_by, entry}
 use Rattle.end.specs.Law as law
 use Rattle.end.specs.Outcomes.{own, sends, does, framed, met}
-use Rattle.end.specs.Promises.{Number, one, two, seen_at, Ending, ClearedBy, Clearing, Over, OverIn, counted, ticks_in, ACancelIsNeverRefused, EveryAcknowledgedCommandIsEnded}
+use Rattle.end.specs.Promises.{Number, one, two, seen_at, Ending, ClearedBy, Clearing, Over, OverIn, counted, ticks_in, ACancelIsNeverRefused, EveryAcknowledgedCommandIsEnded, WhatIsSentIsWholePackets}
 use Rattle.end.specs.Sockets.{is_open, socket_at, with_socket}
 use Rattle.end.specs.States.{State}
 use Rattle.end.specs.Steps.{Came}
@@ -193,3 +193,6 @@ a_cancel_is_never_refused m h s r y number p n at st room a sent s' big d =
       ending = c.packets ∙ reply_length number z;
       shut = closed_at number (enters k (entry (Byte 0xff) room sent)) s' s.sockets after c.sockets;
     }
+
+pub what_is_sent_is_whole_packets : WhatIsSentIsWholePackets
+what_is_sent_is_whole_packets m h s r c room a sent s' d = (call_law (entry c room sent) a s' r d).whole

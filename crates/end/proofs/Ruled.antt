@@ -140,4 +140,4 @@ module _ (a h : ℕ) (t : List ℕ) (low : a ≤ 7) where
       refl own_none wide_enough for_another for_me)
 
 pub ruled : (a : ℕ) {p : List ℕ} → a ≤ 7 → Whole p → Ruled a p (rule_of a p) (address_after a p) (clearing a p)
-ruled a low (whole h t plain) = ruled_here a h t low
+ruled a low (whole h t plain _) = ruled_here a h t low

@@ -8,7 +8,7 @@ use Rattle.end.specs.declared.socket.Sockets.{Sockets}
 use Rattle.end.specs.Book.{Book, Entry, Standing, Seen, closed, between, cut, reads, receives, sees, ages, older, notes, accepted, enters, book_of, fresh, clearing}
 use Rattle.end.specs.Deeds.{Same}
 use Rattle.end.specs.Faults.{Answer, opens}
-use Rattle.end.specs.Law.{Run, Lawful, Law, Agreement, InOrder, InTime, MayChange, open_by, entry, Keeps, Played, Served, room_for, SocketsAgreeInEveryRun}
+use Rattle.end.specs.Law.{Run, Lawful, Law, Agreement, WholePackets, InOrder, InTime, MayChange, open_by, entry, Keeps, Played, Served, room_for, SocketsAgreeInEveryRun}
 use Rattle.end.specs.Law as law
 use Rattle.end.specs.Outcomes.{Outcome, own_header, sends, fails, framed, met, ended, requested as asked-for}
 use Rattle.end.specs.States.{State, InRange}
@@ -16,6 +16,7 @@ use Rattle.end.specs.Steps.{Came, Made, Step}
 use Rattle.end.proofs.Effects as effects
 use Rattle.end.proofs.Heard.{Stands, nowhere, Heard, nothing, faulty, packet, heard, Whole}
 use Rattle.end.proofs.Ruled.{Ruled, taken_off, address, cleared_for_all, sent_on, cleared, cancelled, requested, ruled}
+use Rattle.end.proofs.Sent.{whole_packets}
 use Rattle.end.proofs.Ticking.{after_tick, changed}
 use Rattle.end.proofs.Tied.{Tied, rests, tied_open, tied_holds, tied_in_time, After}
 use Rattle.head.specs.declared.setting.Setting.{Setting}
@@ -292,9 +293,10 @@ agreement k s i =
     let y = tied_open i.two in
     record { asked = rw (x, y) refl; slot_one = tied_holds i.one; slot_two = tied_holds i.two }
 
-lawful_call : (k : Book) (s : State) (e : Entry) (a : Answer) (s' : State) → Goes k s e a s' → Law k s e a s'
-lawful_call k s e a s' g = record {
+lawful_call : (k : Book) (s : State) (e : Entry) (a : Answer) (s' : State) → WholePackets 2 e.sent → Goes k s e a s' → Law k s e a s'
+lawful_call k s e a s' w g = record {
   agreement = agreement (enters k e) s' g.inv;
+  whole = w;
   order_one = g.order_one;
   order_two = g.order_two;
   silent = g.silent;
@@ -305,7 +307,10 @@ lawful_call k s e a s' g = record {
 }
 
 pub call_law : {m : Meaning} {h : List Entry} {s : State} (e : Entry) (a : Answer) (s' : State) → Run m h s → Step s e.call e.room a e.sent s' → Law (book_of h) s e a s'
-call_law {h = h} {s = s} e a s' r d = lawful_call (book_of h) s e a s' (goes (book_of h) s e.call e.room a e.sent s' (in_range_in r) (kept r) d)
+call_law {h = h} {s = s} e a s' r d =
+    let v = in_range_in r in
+    let i = kept r in
+    lawful_call (book_of h) s e a s' (whole_packets s e.call e.room a e.sent s' (rw i.address i.low) v i.stands d) (goes (book_of h) s e.call e.room a e.sent s' v i d)
 
 pub every_run : {m : Meaning} {h : List Entry} {s : State} → Run m h s → Lawful m h s
 every_run (law.Run.made {s = s} d v) = law.Lawful.made d v (agreement fresh s (just_made d))

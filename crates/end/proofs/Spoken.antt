@@ -1,6 +1,7 @@
 -- What the book makes of bytes that an end sends: its own replies, and packets that say nothing of its sockets.
-use Rattle.std.proofs.Common.{◌≡◌, ℕ, ◌+◌, ◌/◌, ◌%◌, ◌<◌, ◌≤◌, Bool, true, false, cond, not, ◌&&◌, eqb, List, [], ◌∷◌, ◌++◌, sym, refl, ap, ◌∙◌, subst, append_assoc, arith}
-use Rattle.std.proofs.lemmas.Bool.{eqb-false, eq-eqb, ne_eqb}
+use Rattle.std.proofs.Common.{◌≡◌, ℕ, ◌+◌, ◌/◌, ◌%◌, ◌<◌, ◌≤◌, Bool, true, false, cond, not, ◌&&◌, eqb, List, [], ◌∷◌, ◌++◌, length, sym, refl, ap, ◌∙◌, subst, append_assoc, arith}
+use Rattle.std.proofs.lemmas.Bool.{eqb-false, eq-eqb, ne_eqb, le-leb}
+use Rattle.std.proofs.lemmas.List.{length_push}
 use Rattle.end.specs.Book.{Seen, Word, acknowledges, ends, other, same, cut, cut_from, word, told, reads}
 use Rattle.end.specs.Law.{Due, InOrder}
 use Rattle.end.specs.Outcomes.{own, own_header}
@@ -9,6 +10,7 @@ use Rattle.rules.specs.declared.reply.Problem.TheVariants.{Syntax, BufferFull, C
 use Rattle.rules.specs.declared.reply.Reply.{Reply}
 use Rattle.rules.specs.declared.reply.Reply.TheVariants.{Acknowledgement, Completion, Error}
 use Rattle.rules.specs.Replies.{code_of}
+use Rattle.wire.specs.Packets.{is_header, closes, is_packet}
 
 -- Bytes without FF, and how they are cut.
 
@@ -28,11 +30,25 @@ cut_plain begun (x ∷ q) rest h =
 pub cut_packet : (q rest : List ℕ) → Plain q → cut (q ++ 0xff ∷ rest) ≡ (q ++ 0xff ∷ []) ∷ cut rest
 cut_packet q rest h = cut_plain [] q rest h
 
+-- with a header and 1 to 14 bytes behind it, and FF, they are a packet
+closes_plain : (t : List ℕ) → Plain t → closes (t ++ 0xff ∷ []) ≡ true
+closes_plain [] h = refl
+closes_plain (b ∷ []) h = rw h.0 refl
+closes_plain (b ∷ c ∷ t) h = rw h.0 (closes_plain (c ∷ t) h.1)
+
+pub packet_of : (h : ℕ) (t : List ℕ) → is_header h ≡ true → Plain t → 1 ≤ length t → length t ≤ 14 → is_packet (h ∷ (t ++ 0xff ∷ [])) ≡ true
+packet_of h t header plain low high =
+    let n = length_push t 0xff in
+    rw (header, closes_plain t plain, le-leb 2 (length (t ++ 0xff ∷ [])) (omega arith), le-leb (length (t ++ 0xff ∷ [])) 15 (omega arith)) refl
+
 small : (b : ℕ) → b < 0xff → eqb b 0xff ≡ false
 small b h = ne_eqb b 0xff (λ e. omega arith)
 
 pub own_header_plain : (a : ℕ) → a ≤ 7 → eqb (own_header a) 0xff ≡ false
 own_header_plain a h = small (own_header a) (omega arith)
+
+pub own_header_is : (a : ℕ) → a ≤ 7 → is_header (own_header a) ≡ true
+own_header_is a h = rw (le-leb 0x80 (own_header a) (omega arith), le-leb (own_header a) 0xfe (omega arith)) refl
 
 -- A packet says of socket y only what an own one says behind its header.
 
@@ -55,7 +71,7 @@ word_none a y h t e = rw e (none (eqb a 0)) where
 
 -- Replies of the end.
 
-abbrev tail_of : Reply → List ℕ
+abbrev pub tail_of : Reply → List ℕ
 tail_of (Acknowledgement z) = (0x40 + z % 16) ∷ []
 tail_of (Completion z) = (0x50 + z % 16) ∷ []
 tail_of (Error z problem) = (0x60 + z % 16) ∷ code_of problem ∷ []
@@ -64,7 +80,7 @@ tail_of (Error z problem) = (0x60 + z % 16) ∷ code_of problem ∷ []
 abbrev pub said : ℕ → Reply → Word
 said y r = behind y (tail_of r ++ 0xff ∷ [])
 
-own_is : (a : ℕ) (r : Reply) (rest : List ℕ) → own a r ++ rest ≡ own_header a ∷ (tail_of r ++ 0xff ∷ rest)
+pub own_is : (a : ℕ) (r : Reply) (rest : List ℕ) → own a r ++ rest ≡ own_header a ∷ (tail_of r ++ 0xff ∷ rest)
 own_is a (Acknowledgement z) rest = refl
 own_is a (Completion z) rest = refl
 own_is a (Error z problem) rest = refl
@@ -76,7 +92,7 @@ code_small Cancelled = omega arith
 code_small NoSocket = omega arith
 code_small NotExecutable = omega arith
 
-tail_plain : (r : Reply) → Plain (tail_of r)
+pub tail_plain : (r : Reply) → Plain (tail_of r)
 tail_plain (Acknowledgement z) = (small _ (omega arith), tt)
 tail_plain (Completion z) = (small _ (omega arith), tt)
 tail_plain (Error z problem) = (small _ (omega arith), (small _ (code_small problem), tt))

@@ -1,5 +1,6 @@
 -- The law of the sockets, over runs of any length, over any head.
 use Rattle.std.specs.Prelude.{◌≡◌, ℕ, ◌-◌, ◌<◌, ◌≤◌, Bool, true, false, ◌⊎◌, List, [], ◌∷◌, ◌++◌, length, pos, is_some, Some, None, Ok, Err, Option, Result}
+use Rattle.std.specs.List.{concat, list_all}
 use Rattle.end.specs.declared.call.Call.{Call}
 use Rattle.end.specs.declared.call.Call.TheVariants.{Byte, Tick, Open}
 use Rattle.end.specs.Book.{Book, Entry, Seen, closed, working, Word, acknowledges, ends, other, word, told, cut, fresh, notes, accepted, enters, book_of}
@@ -17,7 +18,7 @@ use Rattle.rows.specs.declared.fault.PacketFault.{PacketFault}
 use Rattle.rows.specs.declared.request.Request.{Request}
 use Rattle.rows.specs.declared.request.Request.TheVariants.{Command, Ask}
 use Rattle.rows.specs.Requests.{read_body}
-use Rattle.wire.specs.Packets.{body_of}
+use Rattle.wire.specs.Packets.{is_packet, body_of}
 
 -- A run: an end just made of a head that means m gets calls, refused ones included, and each is a step. The head's settings are
 -- in range all the while, as those of every head are. The newest entry stands first.
@@ -55,6 +56,15 @@ pub record Agreement (k : Book) (s : State) : Type 0 where
   pub asked : opens (is_open s.sockets.one) (is_open s.sockets.two) ≡ opens (open_by k.one) (open_by k.two)
   pub slot_one : Holds k.one s.head.slots.one
   pub slot_two : Holds k.two s.head.slots.two
+
+-- Whole packets.
+
+-- bytes that are at most n packets and fit in 16: the book's cut loses none of them, and makes only packets of them
+pub record WholePackets (n : ℕ) (sent : List ℕ) : Type 0 where
+  pub complete : concat (cut sent) ≡ sent
+  pub each : list_all is_packet (cut sent) ≡ true
+  pub few : length (cut sent) ≤ n
+  pub short : length sent ≤ 16
 
 -- Order of packets.
 
@@ -99,6 +109,7 @@ pub record MayChange (k : Book) (m : Meaning) (e : Entry) (t : Setting) : Type 0
 -- The law of one call e in state s, answered a, that leads to s'; k is the book before it.
 pub record Law (k : Book) (s : State) (e : Entry) (a : Answer) (s' : State) : Type 0 where
   pub agreement : Agreement (enters k e) s'
+  pub whole : WholePackets 2 e.sent
   -- the packets that an accepted call sent, as the book reads them
   pub order_one : accepted e.call e.room ≡ true → InOrder (notes k e.call).address 1 (notes k e.call).last (cut e.sent) (notes k e.call).one
   pub order_two : accepted e.call e.room ≡ true → InOrder (notes k e.call).address 2 (notes k e.call).last (cut e.sent) (notes k e.call).two

@@ -1,10 +1,11 @@
--- What the law means for whoever sends commands: a cancel always works, and every acknowledged command is ended.
+-- What the law means for whoever sends commands: a cancel always works, every acknowledged command is ended, and what is sent is
+-- whole packets.
 use Rattle.std.specs.Prelude.{◌≡◌, ℕ, ◌+◌, ◌*◌, ◌≤◌, true, cond, ◌⊎◌, List, [], ◌∷◌, ◌++◌, Some, None, Option, ◌==◌}
 use Rattle.end.specs.declared.call.Call.{Call}
 use Rattle.end.specs.declared.call.Call.TheVariants.{Byte, Tick, Open}
 use Rattle.end.specs.Book.{Book, Entry, Seen, closed, working, inside, ends, word, cut, notes, made_whole, clearing, accepted, enters, book_of}
 use Rattle.end.specs.Faults.{Answer, counts}
-use Rattle.end.specs.Law.{Run, entry}
+use Rattle.end.specs.Law.{Run, WholePackets, entry}
 use Rattle.end.specs.States.{State}
 use Rattle.end.specs.Steps.{Step}
 use Rattle.head.specs.Meaning.{Meaning}
@@ -71,3 +72,9 @@ abbrev pub EveryAcknowledgedCommandIsEnded : Type 0
 EveryAcknowledgedCommandIsEnded =
     (m : Meaning) (h later : List Entry) (s : State) → Run m (later ++ h) s →
     (y : ℕ) → Number y → (p : List ℕ) (n : ℕ) → seen_at (book_of h) y ≡ working p n → 1000 ≤ ticks_in later → OverIn y h later
+
+-- In any run, what a call sends is whole packets, at most two of them.
+abbrev pub WhatIsSentIsWholePackets : Type 0
+WhatIsSentIsWholePackets =
+    (m : Meaning) (h : List Entry) (s : State) → Run m h s →
+    (c : Call) (room : ℕ) (a : Answer) (sent : List ℕ) (s' : State) → Step s c room a sent s' → WholePackets 2 sent

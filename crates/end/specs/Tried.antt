@@ -4,7 +4,7 @@ use Rattle.end.specs.declared.call.Call.TheVariants.{Byte, Tick, Open}
 use Rattle.end.specs.declared.socket.Sockets.{Sockets}
 use Rattle.end.specs.Book.{Entry, Seen, closed, working, book_of}
 use Rattle.end.specs.Deeds.{sockets_after, both_idle}
-use Rattle.end.specs.Law.{read_as, Holds, InOrder, InTime, entry}
+use Rattle.end.specs.Law.{read_as, Holds, WholePackets, InOrder, InTime, entry}
 use Rattle.end.specs.Outcomes.{met}
 use Rattle.end.specs.Sockets.{both_closed}
 use Rattle.head.specs.declared.order.Order.{Order}
@@ -163,6 +163,9 @@ TheBookReadsRuns = books readings ≡ told readings
 
 -- what it does not let pass
 pub record TheLawExcludes : Type 0 where
+  pub no_end : WholePackets 2 (ack_1 ++ 0x90 ∷ 0x52 ∷ []) → ⊥
+  pub no_body : WholePackets 2 (0x90 ∷ 0xff ∷ []) → ⊥
+  pub three_packets : WholePackets 2 (ack_1 ++ ack_2 ++ ack_1) → ⊥
   pub second_acknowledgement : InOrder 1 1 zoom (ack_1 ∷ []) (working zoom 0) → ⊥
   pub ending_of_none : InOrder 1 1 zoom ((0x90 ∷ 0x51 ∷ 0xff ∷ []) ∷ []) closed → ⊥
   pub ending_twice : InOrder 1 1 zoom ((0x90 ∷ 0x61 ∷ 0x04 ∷ 0xff ∷ []) ∷ (0x90 ∷ 0x51 ∷ 0xff ∷ []) ∷ []) (working zoom 0) → ⊥

@@ -2,7 +2,7 @@
 //! definitions to.
 
 ghost use Rattle.end.specs.Law.{SocketsAgreeInEveryRun};
-ghost use Rattle.end.specs.Promises.{ACancelIsNeverRefused, EveryAcknowledgedCommandIsEnded};
+ghost use Rattle.end.specs.Promises.{ACancelIsNeverRefused, EveryAcknowledgedCommandIsEnded, WhatIsSentIsWholePackets};
 
 /// In every run, over any head, the law holds after each call.
 pub fn sockets_agree_in_every_run()
@@ -18,4 +18,9 @@ pub fn a_cancel_is_never_refused()
 /// was cleared or the address set anew.
 pub fn every_acknowledged_command_is_ended()
     ensures { EveryAcknowledgedCommandIsEnded }
+{}
+
+/// What a call sends is whole packets, at most two, one behind the other.
+pub fn what_is_sent_is_whole_packets()
+    ensures { WhatIsSentIsWholePackets }
 {}

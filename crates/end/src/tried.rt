@@ -12,8 +12,8 @@ pub fn the_book_reads_runs()
     ensures { TheBookReadsRuns }
 {}
 
-/// The law does not let pass a second acknowledgement, an ending of no command, a thousand ticks, or
-/// a slot that holds another order than its socket's.
+/// The law does not let pass bytes that are not whole packets, a second acknowledgement, an ending of
+/// no command, a thousand ticks, or a slot that holds another order than its socket's.
 pub fn the_law_excludes()
     ensures { TheLawExcludes }
 {}

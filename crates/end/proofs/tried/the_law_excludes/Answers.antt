@@ -15,6 +15,9 @@ first_named (Some o) = number (leading o.targets).setting
 pub returns : goal.returns
 unfolding first_named in_range read_command ranged
 returns c = record {
+  no_end = λ w. let e = w.complete in cc;
+  no_body = λ w. false≢true w.each;
+  three_packets = λ w. let few = w.few in omega arith;
   second_acknowledgement = λ d. true≢false d.0;
   ending_of_none = λ d. false≢true d.0;
   ending_twice = λ d. false≢true d.1.0;
