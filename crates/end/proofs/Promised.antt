@@ -1,16 +1,16 @@
 -- What the law means for whoever sends commands.
-use Rattle.std.proofs.Common.{◌≡◌, ℕ, ◌+◌, ◌*◌, ◌/◌, ◌%◌, ◌<◌, ◌≤◌, Bool, true, false, cond, eqb, ◌⊎◌, List, [], ◌∷◌, ◌++◌, length, Some, None, Option, sym, refl, ap, ◌∙◌, subst, inl, inr, add-zero, add_assoc, arith}
-use Rattle.std.proofs.lemmas.Bool.{true≢false, eqb-false, eq-eqb, ne_eqb}
+use Rattle.std.proofs.Common.{◌≡◌, ℕ, ◌+◌, ◌*◌, ◌/◌, ◌%◌, ◌<◌, ◌≤◌, Bool, true, false, cond, eqb, leb, ◌⊎◌, List, [], ◌∷◌, ◌++◌, length, Some, None, Ok, Option, sym, refl, ap, ◌∙◌, subst, inl, inr, add-zero, add_assoc, arith}
+use Rattle.std.proofs.lemmas.Bool.{true≢false, eqb-false, eq-eqb, ne_eqb, le-leb, lt-ltb}
 use Rattle.end.specs.declared.call.Call.{Call}
 use Rattle.end.specs.declared.call.Call.TheVariants.{Byte, Tick, Open}
-use Rattle.end.specs.Book.{Book, Entry, Standing, inside, Seen, closed, working, Word, acknowledges, ends, other, word, told, cut, reads, receives, ages, notes, made_whole, standing_after, clearing, accepted, enters, book_of}
+use Rattle.end.specs.Book.{Book, Entry, Standing, between, inside, Seen, closed, working, Word, acknowledges, ends, other, word, told, cut, reads, receives, ages, notes, made_whole, standing_after, clearing, accepted, enters, book_of}
 use Rattle.end.specs.declared.socket.Sockets.{Sockets}
 use Rattle.end.specs.Deeds.{cancels}
 use Rattle.end.specs.Faults.{Answer, counts}
 use Rattle.end.specs.Law.{Run, Law, InOrder, Due, InTime, open_by, entry}
 use Rattle.end.specs.Law as law
 use Rattle.end.specs.Outcomes.{own, sends, does, framed, met}
-use Rattle.end.specs.Promises.{Number, one, two, seen_at, Ending, ClearedBy, Clearing, Over, OverIn, counted, ticks_in, ACancelIsNeverRefused, EveryAcknowledgedCommandIsEnded, WhatIsSentIsWholePackets}
+use Rattle.end.specs.Promises.{Number, one, two, seen_at, Ending, ClearedBy, Clearing, Over, OverIn, counted, ticks_in, Comes, come, Silent, ACancelIsNeverRefused, AWholeCancelIsNeverRefused, EveryAcknowledgedCommandIsEnded, WhatIsSentIsWholePackets}
 use Rattle.end.specs.Sockets.{is_open, socket_at, with_socket}
 use Rattle.end.specs.States.{State}
 use Rattle.end.specs.Steps.{Came}
@@ -24,7 +24,7 @@ use Rattle.rules.specs.declared.reply.Reply.TheVariants.{Error}
 use Rattle.rules.specs.declared.ring.Rule.{Rule}
 use Rattle.rules.specs.declared.ring.Rule.TheVariants.{Cancelled}
 use Rattle.rules.specs.Ring.{rule_of}
-use Rattle.wire.specs.Framing.{Held, none, begun, next, event}
+use Rattle.wire.specs.Framing.{Held, none, begun, next, Event, event}
 
 -- An open socket stays open until an ending or a clearing.
 
@@ -173,26 +173,88 @@ reply_length one a = refl
 reply_length two a = refl
 
 pub a_cancel_is_never_refused : ACancelIsNeverRefused
-a_cancel_is_never_refused m h s r y number p n at st room a sent s' big d =
+a_cancel_is_never_refused m h s r y number p n at st x =
     let k = book_of h in
     let i = kept r in
     let z = k.address in
     let bs : List ℕ = (0x80 + z) ∷ (0x20 + y) ∷ [] in
     let has = has_address number k s p n i at in
-    let T : Held → ℕ → Type 0 = λ hd x. Came s (next hd 0xff) (framed x s.head s.sockets (event hd 0xff)) a sent s' in
-    let c₁ : T s.held s.address = d.enough big in
+    let T : Held → ℕ → Type 0 = λ hd n. Came s (next hd 0xff) (framed n s.head s.sockets (event hd 0xff)) x.answer x.sent x.after in
+    let c₁ : T s.held s.address = x.step.enough x.enough in
     let c₂ : T (begun bs) s.address = subst (λ (hd : Held). T hd s.address) (stands_inside bs i.stands st) c₁ in
-    let c₃ : T (begun bs) z = subst (λ (x : ℕ). T (begun bs) x) i.address c₂ in
-    let U : Rule → Type 0 = λ rule. Came s none (met z s.head s.sockets (cancel_of z y) rule) a sent s' in
+    let c₃ : T (begun bs) z = subst (λ (n : ℕ). T (begun bs) n) i.address c₂ in
+    let U : Rule → Type 0 = λ rule. Came s none (met z s.head s.sockets (cancel_of z y) rule) x.answer x.sent x.after in
     let c₄ : U (Cancelled y) = subst U (cancel_rule z i.low has number) c₃ in
-    let V : Bool → Type 0 = λ t. Came s none (cond t (does z (cancels y) (own z (Error y CancelledCommand))) (sends z (own z (Error y NoSocket)))) a sent s' in
+    let V : Bool → Type 0 = λ t. Came s none (cond t (does z (cancels y) (own z (Error y CancelledCommand))) (sends z (own z (Error y NoSocket)))) x.answer x.sent x.after in
     let c : V true = subst V (open_at number k s p n i at) c₄ in
-    let after = (goes k s (Byte 0xff) room a sent s' (in_range_in r) i d).inv in
+    let after = (goes k s (Byte 0xff) x.room x.answer x.sent x.after (in_range_in r) i x.step).inv in
     record {
       answer = c.answer ∙ ap (λ (q : List ℕ). counts (length q)) (reply_length number z);
       ending = c.packets ∙ reply_length number z;
-      shut = closed_at number (enters k (entry (Byte 0xff) room sent)) s' s.sockets after c.sockets;
+      shut = closed_at number (enters k (come x)) x.after s.sockets after c.sockets;
     }
+
+-- A cancel from its first byte on.
+
+-- after a byte that makes nothing whole
+record Quiet (m : Meaning) (h : List Entry) {s : State} {b : ℕ} (x : Comes s b) (st : Standing) (y : ℕ) : Type 0 where
+  run : Run m (come x ∷ h) x.after
+  silent : Silent x
+  address : (book_of (come x ∷ h)).address ≡ (book_of h).address
+  standing : (book_of (come x ∷ h)).standing ≡ st
+  seen : seen_at (book_of (come x ∷ h)) y ≡ seen_at (book_of h) y
+
+quiet : (m : Meaning) (h : List Entry) (s : State) (b : ℕ) (x : Comes s b) (st : Standing) (y : ℕ) → Number y → Run m h s →
+    event s.held b ≡ Ok None → made_whole (book_of h).standing b ≡ None → standing_after (book_of h).standing b ≡ st → Quiet m h x st y
+quiet m h s b x st y number r tells unmade stands =
+    let T : Event → Type 0 = λ ev. Came s (next s.held b) (framed s.address s.head s.sockets ev) x.answer x.sent x.after in
+    let c : T (Ok None) = subst T tells (x.step.enough x.enough) in
+    let v = in_range_in r in
+    let big = le-leb 16 x.room x.enough in
+    record {
+      run = law.Run.then (come x) x.answer r x.step (record { each = λ t. rw (c.head.kept.setting t) (v.each t) });
+      silent = record { answer = c.answer; nothing = c.packets };
+      address = rw (big, unmade) refl;
+      standing = rw (big, unmade) stands;
+      seen = seen number c.packets big;
+    }
+  where
+    seen : {y : ℕ} → Number y → x.sent ≡ [] → leb 16 x.room ≡ true → seen_at (book_of (come x ∷ h)) y ≡ seen_at (book_of h) y
+    seen one e big = rw (big, unmade, e) refl
+    seen two e big = rw (big, unmade, e) refl
+
+stands_between : {st : Standing} {hd : Held} → Stands st hd → st ≡ between → hd ≡ none
+stands_between nowhere e = refl
+stands_between (within plain head high) e = cc
+stands_between passing e = cc
+
+second_byte : {y : ℕ} → Number y → eqb (0x20 + y) 0xff ≡ false
+second_byte one = refl
+second_byte two = refl
+
+pub a_whole_cancel_is_never_refused : AWholeCancelIsNeverRefused
+a_whole_cancel_is_never_refused m h s r y number p n at st x₁ x₂ x₃ =
+    let i = kept r in
+    let low = i.low in
+    let b₁ = 0x80 + (book_of h).address in
+    let b₂ = 0x20 + y in
+    let l = le-leb 0x80 b₁ (omega arith) in
+    let g = le-leb b₁ 0xfe (omega arith) in
+    let f = lt-ltb b₁ 0xff (omega arith) in
+    let q₁ = quiet m h s b₁ x₁ (inside (b₁ ∷ [])) y number r (rw (stands_between i.stands st, l, g) refl) (rw st refl) (rw (st, l, f) refl) in
+    let t = second_byte number in
+    let hd = stands_inside (b₁ ∷ []) (kept q₁.run).stands q₁.standing in
+    let q₂ = quiet m (come x₁ ∷ h) x₁.after b₂ x₂ (inside (b₁ ∷ b₂ ∷ [])) y number q₁.run (rw (hd, t) refl) (rw (q₁.standing, t) refl) (rw (q₁.standing, t) refl) in
+    let e = q₂.address ∙ q₁.address in
+    record {
+      first = q₁.silent;
+      second = q₂.silent;
+      address = e;
+      third = a_cancel_is_never_refused m (come x₂ ∷ come x₁ ∷ h) x₂.after q₂.run y number p n (q₂.seen ∙ q₁.seen ∙ at)
+          (q₂.standing ∙ ap (λ (z : ℕ). inside ((0x80 + z) ∷ b₂ ∷ [])) (sym e)) x₃;
+    }
+
+-- What is sent.
 
 pub what_is_sent_is_whole_packets : WhatIsSentIsWholePackets
 what_is_sent_is_whole_packets m h s r c room a sent s' d = (call_law (entry c room sent) a s' r d).whole

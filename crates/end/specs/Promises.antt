@@ -3,7 +3,7 @@
 use Rattle.std.specs.Prelude.{◌≡◌, ℕ, ◌+◌, ◌*◌, ◌≤◌, true, cond, ◌⊎◌, List, [], ◌∷◌, ◌++◌, Some, None, Option, ◌==◌}
 use Rattle.end.specs.declared.call.Call.{Call}
 use Rattle.end.specs.declared.call.Call.TheVariants.{Byte, Tick, Open}
-use Rattle.end.specs.Book.{Book, Entry, Seen, closed, working, inside, ends, word, cut, notes, made_whole, clearing, accepted, enters, book_of}
+use Rattle.end.specs.Book.{Book, Entry, Seen, closed, working, between, inside, ends, word, cut, notes, made_whole, clearing, accepted, book_of}
 use Rattle.end.specs.Faults.{Answer, counts}
 use Rattle.end.specs.Law.{Run, WholePackets, entry}
 use Rattle.end.specs.States.{State}
@@ -18,20 +18,51 @@ pub data Number : ℕ → Type 0 where
 abbrev pub seen_at : Book → ℕ → Seen
 seen_at k y = cond (y == 1) k.one k.two
 
--- A cancel. In any run, with socket y open by the book and the packet 8a 2Y begun, the FF that makes it whole, given room, is
--- answered with the count 4, the ending X0 6Y 04 FF is sent, and the socket is closed.
-pub record Cancelled (k : Book) (y : ℕ) (e : Entry) (a : Answer) : Type 0 where
-  pub answer : a ≡ counts 4
-  pub ending : e.sent ≡ (k.address + 8) * 16 ∷ (0x60 + y) ∷ 0x04 ∷ 0xff ∷ []
-  pub shut : seen_at (enters k e) y ≡ closed
+-- A cancel.
 
+-- a byte that comes in state s, given room
+pub record Comes (s : State) (b : ℕ) : Type 0 where
+  pub room : ℕ
+  pub enough : 16 ≤ room
+  pub answer : Answer
+  pub sent : List ℕ
+  pub after : State
+  pub step : Step s (Byte b) room answer sent after
+
+abbrev pub come : {s : State} {b : ℕ} → Comes s b → Entry
+come {b = b} x = entry (Byte b) x.room x.sent
+
+-- it is answered with the count 0, and nothing is sent
+pub record Silent {s : State} {b : ℕ} (x : Comes s b) : Type 0 where
+  pub answer : x.answer ≡ counts 0
+  pub nothing : x.sent ≡ []
+
+-- it is answered with the count 4, the ending X0 6Y 04 FF is sent, and the socket is closed; h is the run before it
+pub record Cancels (h : List Entry) (y : ℕ) {s : State} {b : ℕ} (x : Comes s b) : Type 0 where
+  pub answer : x.answer ≡ counts 4
+  pub ending : x.sent ≡ ((book_of h).address + 8) * 16 ∷ (0x60 + y) ∷ 0x04 ∷ 0xff ∷ []
+  pub shut : seen_at (book_of (come x ∷ h)) y ≡ closed
+
+-- In any run, with socket Y open by the book and the packet 8a 2Y begun, the FF that makes it whole cancels.
 abbrev pub ACancelIsNeverRefused : Type 0
 ACancelIsNeverRefused =
     (m : Meaning) (h : List Entry) (s : State) → Run m h s →
     (y : ℕ) → Number y → (p : List ℕ) (n : ℕ) → seen_at (book_of h) y ≡ working p n →
-    (book_of h).standing ≡ inside ((0x80 + (book_of h).address) ∷ (0x20 + y) ∷ []) →
-    (room : ℕ) (a : Answer) (sent : List ℕ) (s' : State) → 16 ≤ room → Step s (Byte 0xff) room a sent s' →
-    Cancelled (book_of h) y (entry (Byte 0xff) room sent) a
+    (book_of h).standing ≡ inside ((0x80 + (book_of h).address) ∷ (0x20 + y) ∷ []) → (x : Comes s 0xff) → Cancels h y x
+
+-- In any run, with socket Y open by the book and no packet begun, of the bytes 8a 2Y FF the first two are silent, which leaves
+-- the address as it was, and the third cancels.
+pub record CancelledBy (h : List Entry) (y : ℕ) {s : State} {b₁ b₂ b₃ : ℕ} (x₁ : Comes s b₁) (x₂ : Comes x₁.after b₂) (x₃ : Comes x₂.after b₃) : Type 0 where
+  pub first : Silent x₁
+  pub second : Silent x₂
+  pub address : (book_of (come x₂ ∷ come x₁ ∷ h)).address ≡ (book_of h).address
+  pub third : Cancels (come x₂ ∷ come x₁ ∷ h) y x₃
+
+abbrev pub AWholeCancelIsNeverRefused : Type 0
+AWholeCancelIsNeverRefused =
+    (m : Meaning) (h : List Entry) (s : State) → Run m h s →
+    (y : ℕ) → Number y → (p : List ℕ) (n : ℕ) → seen_at (book_of h) y ≡ working p n → (book_of h).standing ≡ between →
+    (x₁ : Comes s (0x80 + (book_of h).address)) (x₂ : Comes x₁.after (0x20 + y)) (x₃ : Comes x₂.after 0xff) → CancelledBy h y x₁ x₂ x₃
 
 -- An acknowledged command. An entry sends an ending of socket y, or makes a clearing whole; k is the book before it.
 abbrev pub Ending : ℕ → ℕ → List (List ℕ) → Type 0

@@ -2,7 +2,7 @@
 //! definitions to.
 
 ghost use Rattle.end.specs.Law.{SocketsAgreeInEveryRun};
-ghost use Rattle.end.specs.Promises.{ACancelIsNeverRefused, EveryAcknowledgedCommandIsEnded, WhatIsSentIsWholePackets};
+ghost use Rattle.end.specs.Promises.{ACancelIsNeverRefused, AWholeCancelIsNeverRefused, EveryAcknowledgedCommandIsEnded, WhatIsSentIsWholePackets};
 
 /// In every run, over any head, the law holds after each call.
 pub fn sockets_agree_in_every_run()
@@ -12,6 +12,11 @@ pub fn sockets_agree_in_every_run()
 /// A cancel of an open socket is never refused: its ending is sent and the socket is closed.
 pub fn a_cancel_is_never_refused()
     ensures { ACancelIsNeverRefused }
+{}
+
+/// Nor are its three bytes, where no packet is begun: the first two are silent, and the third cancels.
+pub fn a_whole_cancel_is_never_refused()
+    ensures { AWholeCancelIsNeverRefused }
 {}
 
 /// An acknowledged command is ended, and its ending sent, within 1,000 accepted ticks, or the line
