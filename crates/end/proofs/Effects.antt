@@ -8,7 +8,7 @@ use Rattle.end.specs.Book.{Seen, closed, working, other as nothing_said}
 use Rattle.end.specs.Deeds.{DidHead, sockets_after, clears, starts, displaces, Given}
 use Rattle.end.specs.Law.{ordered, read_as}
 use Rattle.end.specs.Outcomes.{Outcome, own_header, own, sends, does, taken, requested, cancelled}
-use Rattle.end.specs.Sockets.{full, free, powering_in, meets, socket_at}
+use Rattle.end.specs.Sockets.{full, free, powering_in, socket_at}
 use Rattle.end.specs.States.{State}
 use Rattle.end.proofs.Asked.{told_plain}
 use Rattle.end.proofs.Heard.{Whole, whole}
@@ -179,8 +179,8 @@ module _ (f : Setting → ℤ) (pt : Bool) (a : ℕ) (p sent : List ℕ) (s' : S
     allowed : {l₁ l₂ : Seen} {x₁ x₂ : Option Order} {c₁ c₂ : Slot} (o : Order) → read_as p ≡ Some o → Fit pt o → Tied l₁ x₁ c₁ → Tied l₂ x₂ c₂ →
         Done (commanded_if false (both x₁ x₂) o) x₁ x₂ c₁ c₂ → After a p l₁ l₂ sent f s'
     allowed o r fit rests rests d = started_one o r fit rests refl d
-    allowed o r fit rests (works {p = q} {n = n} {o = o'} x y z) d = one_or_displaced (meets (Some o') o) o q n r fit refl refl (works x y z) d
-    allowed o r fit (works {p = q} {n = n} {o = o'} x y z) rests d = two_or_displaced (meets (Some o') o) o q n r fit refl refl (works x y z) d
+    allowed o r fit rests (works {p = q} {n = n} {o = o'} x y z) d = one_or_displaced (in_use (Some o') o) o q n r fit refl refl (works x y z) d
+    allowed o r fit (works {p = q} {n = n} {o = o'} x y z) rests d = two_or_displaced (in_use (Some o') o) o q n r fit refl refl (works x y z) d
     allowed o r fit (works x y z) (works x' y' z') d = replied (Error 0 BufferFull) refl refl (works x y z) (works x' y' z') d
 
     forbidden : {l₁ l₂ : Seen} {x₁ x₂ : Option Order} {c₁ c₂ : Slot} (o : Order) → Tied l₁ x₁ c₁ → Tied l₂ x₂ c₂ →

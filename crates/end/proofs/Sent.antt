@@ -10,7 +10,7 @@ use Rattle.end.specs.Deeds.{other}
 use Rattle.end.specs.Faults.{Answer}
 use Rattle.end.specs.Law.{WholePackets}
 use Rattle.end.specs.Outcomes.{Outcome, own_header, own, framed, met, taken, commanded, requested as asked-for, ended, ticked}
-use Rattle.end.specs.Sockets.{is_open, socket_at, full, free, powering_in, meets}
+use Rattle.end.specs.Sockets.{is_open, socket_at, full, free, powering_in}
 use Rattle.end.specs.States.{State, InRange}
 use Rattle.end.specs.Steps.{Step}
 use Rattle.end.proofs.Asked.{told_plain, told_fits}
@@ -22,7 +22,7 @@ use Rattle.head.specs.declared.outcome.Ending.{Ending}
 use Rattle.head.specs.declared.outcome.Ending.TheVariants.{Done, Jammed}
 use Rattle.head.specs.declared.outcome.Endings.{Endings}
 use Rattle.head.specs.declared.setting.Setting.{Setting}
-use Rattle.head.specs.Meaning.{Meaning}
+use Rattle.head.specs.Meaning.{Meaning, in_use}
 use Rattle.head.specs.Settings.{Small}
 use Rattle.head.proofs.Bounds.{small as small_of}
 use Rattle.rows.specs.declared.fault.PacketFault.{PacketFault}
@@ -102,7 +102,7 @@ module _ (a : ℕ) (low : a ≤ 7) where
   -- a request
   accepted : (k : Sockets) (y : ℕ) (o : Order) → WholePackets 2 (taken a k y o).sent
   accepted k y o =
-      either 2 (meets (socket_at k (other y)) o) _ _
+      either 2 (in_use (socket_at k (other y)) o) _ _
       (reply_in_front (Error (other y) CancelledCommand) (own a (Acknowledgement y)) 1 (omega arith) (reply (Acknowledgement y) 0))
       (reply (Acknowledgement y) 1)
 

@@ -6,12 +6,12 @@ use Rattle.end.specs.declared.fault.Cause.TheVariants.{Framing, Packet}
 use Rattle.end.specs.declared.socket.Sockets.{Sockets}
 use Rattle.end.specs.Deeds.{Deed, nothing, clears, cancels, starts, displaces, ticks, other}
 use Rattle.end.specs.Faults.{Answer, counts, faults, code_of}
-use Rattle.end.specs.Sockets.{is_open, meets, socket_at, full, free, powering_in}
+use Rattle.end.specs.Sockets.{is_open, socket_at, full, free, powering_in}
 use Rattle.head.specs.declared.order.Order.{Order}
 use Rattle.head.specs.declared.outcome.Ending.{Ending}
 use Rattle.head.specs.declared.outcome.Ending.TheVariants.{Done, Jammed}
 use Rattle.head.specs.declared.outcome.Endings.{Endings}
-use Rattle.head.specs.Meaning.{Meaning}
+use Rattle.head.specs.Meaning.{Meaning, in_use}
 use Rattle.rows.specs.declared.fault.PacketFault.{PacketFault}
 use Rattle.rows.specs.declared.request.Request.{Request}
 use Rattle.rows.specs.declared.request.Request.TheVariants.{Command, Ask}
@@ -53,7 +53,7 @@ own a r = packet (own_header a) r
 -- a command that gets socket y; one in the other socket that names a common setting is displaced, which is told first
 abbrev pub taken : ℕ → Sockets → ℕ → Order → Outcome
 taken a k y o =
-    cond (meets (socket_at k (other y)) o)
+    cond (in_use (socket_at k (other y)) o)
     (does a (displaces y o) (own a (Error (other y) CancelledCommand) ++ own a (Acknowledgement y)))
     (does a (starts y o) (own a (Acknowledgement y)))
 

@@ -1,7 +1,6 @@
 -- The two sockets of an end. A socket is closed, or open with the order that its command was read as.
 use Rattle.std.specs.Prelude.{ℕ, Bool, true, false, cond, ◌&&◌, ◌||◌, Some, None, Option, ◌==◌}
 use Rattle.head.specs.declared.order.Order.{Order}
-use Rattle.head.specs.Orders.{parts, shares}
 use Rattle.rules.specs.Modes.{powers_on}
 use Rattle.end.specs.declared.socket.Sockets.{Sockets}
 use Rattle.end.specs.declared.socket.Which.{Which}
@@ -10,11 +9,6 @@ use Rattle.end.specs.declared.socket.Which.TheVariants.{One, Two}
 abbrev pub is_open : Option Order → Bool
 is_open None = false
 is_open (Some o) = true
-
--- the socket's order names a setting of order o
-abbrev pub meets : Option Order → Order → Bool
-meets None o = false
-meets (Some p) o = shares (parts o.targets) (parts p.targets)
 
 -- the socket's order switches power on
 abbrev pub powering : Option Order → Bool

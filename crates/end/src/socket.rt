@@ -2,7 +2,8 @@
 
 ghost use Rattle.std.specs.Prelude.{◌≡◌};
 ghost use Rattle.end.specs.Deeds.{other as other_of};
-ghost use Rattle.end.specs.Sockets.{is_open, number as number_of, numbered, socket_at, with_socket, full as full_of, free as free_of, powering_in, meets as meets_order};
+ghost use Rattle.end.specs.Sockets.{is_open, number as number_of, numbered, socket_at, with_socket, full as full_of, free as free_of, powering_in};
+ghost use Rattle.head.specs.Meaning.{in_use};
 
 use head::Order;
 use rules::powers_on;
@@ -96,7 +97,7 @@ impl Sockets {
 
     /// Whether the order in a socket names a setting of this one.
     pub(crate) fn meets(self, which: Which, order: &Order) -> bool
-        ensures { result ≡ meets_order (socket_at self (number_of which)) order.now }
+        ensures { result ≡ in_use (socket_at self (number_of which)) order.now }
     {
         self.get(which).is_some_and(|held| order.meets(&held))
     }

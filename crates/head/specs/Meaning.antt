@@ -1,6 +1,6 @@
 -- What a head means: its settings, whether it has pan and tilt, and its two slots;
 -- and what looking, starting, ticking and dropping do to that.
-use Rattle.std.specs.Prelude.{◌≡◌, ℕ, ◌-◌, ◌<◌, ◌≤◌, Bool, false, cond, not, ◌&&◌, ◌||◌, ◌⊎◌, ℤ, pos, ◌≤ℤ◌, ◌<ℤ◌, is_some, Some, None, Ok, Err, Option, Result, ◌==◌}
+use Rattle.std.specs.Prelude.{◌≡◌, ℕ, ◌-◌, ◌<◌, ◌≤◌, Bool, false, cond, not, ◌&&◌, ◌||◌, ◌⊎◌, ℤ, pos, ◌≤ℤ◌, ◌<ℤ◌, is_some, Some, None, Ok, Err, Option, Result, ◌==◌, nat_lt}
 use Rattle.head.specs.declared.order.Order.{Order}
 use Rattle.head.specs.declared.outcome.Ending.{Ending}
 use Rattle.head.specs.declared.outcome.Ending.TheVariants.{Done, Jammed}
@@ -110,6 +110,11 @@ pub record Dropped (m : Meaning) (y : ℕ) (m' : Meaning) : Type 0 where
   pub now_idle : m'.slots ≡ put m.slots y idle
 
 -- Tick.
+
+-- what a tick leaves in a slot
+abbrev pub rest : Slot → Slot
+rest idle = idle
+rest (busy o n) = cond (nat_lt 1 n) (busy o (n - 1)) idle
 
 -- a slot over a tick that tells e of it: one tick fewer, or idle and told after the last
 abbrev pub SlotTicked : Slot → Option Ending → Slot → Type 0

@@ -1,9 +1,8 @@
 -- A tick of our heads is one of every head.
-use Rattle.std.proofs.Common.{◌≡◌, ℕ, Bool, true, false, cond, ◌&&◌, ltb, ℤ, pos, negsuc, ◌+ℤ◌, ◌*ℤ◌, ◌≤ℤ◌, ◌<ℤ◌, is_some, Some, None, Option, sym, refl, ap, ◌∙◌, subst, arith}
+use Rattle.std.proofs.Common.{◌≡◌, ℕ, Bool, true, false, cond, ◌&&◌, ltb, ℤ, pos, negsuc, ◌+ℤ◌, ◌*ℤ◌, ◌≤ℤ◌, ◌<ℤ◌, Some, None, Option, sym, refl, ap, ◌∙◌, subst, arith}
 use lib.Signed.{le_z}
 use Rattle.std.proofs.lemmas.Int.{ints, clamps}
 use Rattle.std.proofs.lemmas.Bool.{and_parts, ltb-true, ltb-false}
-use Rattle.std.proofs.Math.Bool.{and_comm}
 use Rattle.std.specs.Int.{int_min, int_max}
 use Rattle.head.specs.declared.order.Order.{Order}
 use Rattle.head.specs.declared.outcome.Ending.{Ending}
@@ -14,13 +13,14 @@ use Rattle.head.specs.declared.setting.Axis.TheVariants.{Zoom, Focus, Pan, Tilt}
 use Rattle.head.specs.declared.setting.Setting.{Setting}
 use Rattle.head.specs.Settings.{about, in_range, position, drive}
 use Rattle.head.specs.Orders.{parts, wants}
-use Rattle.head.specs.Meaning.{Slot, idle, busy, Timed, SlotTicked, Pulled, Driven, Meaning, wanted, Strict}
+use Rattle.head.specs.Meaning.{Slot, idle, busy, Timed, rest, SlotTicked, Pulled, Driven, Meaning, wanted, Strict}
+use Rattle.head.proofs.Apart.{Apart, other_none}
 use Rattle.head.proofs.Options.{no_some}
 use Rattle.head.proofs.Tables.{position_is, axis_is}
 use Rattle.heads.specs.declared.motion.Motion.{Motion}
 use Rattle.heads.specs.declared.motion.Motion.TheVariants.{AtOnce, Stepwise, Stalled}
 use Rattle.heads.specs.Motion.{moved, driven, unit, held}
-use Rattle.heads.specs.Exact.{is_at, there, arrived, told, rest, pulled_to, pulled, unnamed, or_else, next, Ran}
+use Rattle.heads.specs.Exact.{is_at, there, arrived, told, pulled_to, pulled, unnamed, or_else, next, Ran}
 use Rattle.heads.specs.Rigs.{arrives, foretold}
 use Rattle.heads.proofs.Axes.{each_of}
 use Rattle.heads.proofs.Moves.{moved_between}
@@ -100,15 +100,6 @@ slot_lawful : (m : Motion) (b : Slot) (e : Option Ending) (f f' : Setting → �
 slot_lawful m idle e f f' s t r w g v = no_some w
 slot_lawful m (busy o n) e f f' s t r w g v = pulled_lawful m o n (about s).axis e f f' s t refl w g (v ∙ pulled_first m o n e s (f s) t r w)
 
--- no setting is named by both
-abbrev pub Apart : Slot → Slot → Type 0
-Apart a b = (s : Setting) → (is_some (wanted a s) && is_some (wanted b s)) ≡ false
-
-other_none : (x y : Option ℤ) (t : ℤ) → (is_some x && is_some y) ≡ false → y ≡ Some t → x ≡ None
-other_none None y t h e = refl
-other_none (Some s) None t h e = cc
-other_none (Some s) (Some u) t h e = cc
-
 pub strict : (motion : Motion) (m m' : Meaning) (e : Endings) → ((s : Setting) → in_range s (m.setting s) ≡ true) → Timed m.slots.one → Timed m.slots.two
     → Apart m.slots.one m.slots.two → Ran motion m e m' → Strict m e m'
 strict motion m m' e ranged t₁ t₂ apart ran = record {
@@ -175,6 +166,3 @@ pub foretold_is : (m : Motion) (b : Slot) (f f' : Setting → ℤ) → Moved m b
 foretold_is m idle f f' h = refl
 foretold_is m (busy o n) f f' h =
     simp (reaches_there m o n f f' Zoom h, reaches_there m o n f f' Focus h, reaches_there m o n f f' Pan h, reaches_there m o n f f' Tilt h)
-
-pub apart_sym : (a b : Slot) → Apart a b → Apart b a
-apart_sym a b h s = and_comm (is_some (wanted b s)) (is_some (wanted a s)) ∙ h s

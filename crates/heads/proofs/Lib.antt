@@ -3,6 +3,5 @@ pub mod Spans
 pub mod Drives
 pub mod Moves
 pub mod Lawful
-pub mod Apart
 pub mod Rigs
 pub mod Punctual

@@ -11,15 +11,16 @@ use Rattle.head.specs.declared.setting.Axis.TheVariants.{Zoom, Focus, Pan, Tilt}
 use Rattle.head.specs.declared.setting.Setting.{Setting}
 use Rattle.head.specs.Settings.{position}
 use Rattle.head.specs.Orders.{parts, wants}
-use Rattle.head.specs.Meaning.{Slot, idle, busy, put, Meaning, Timed, Started, Dropped}
+use Rattle.head.specs.Meaning.{Slot, idle, busy, put, Meaning, Timed, rest, Started, Dropped}
 use Rattle.heads.specs.Motion.{step, toward}
-use Rattle.heads.specs.Exact.{rounded_up, ticks_on, longest, is_at, there, arrived, told, rest, Ran}
+use Rattle.heads.specs.Exact.{rounded_up, ticks_on, longest, is_at, there, arrived, told, Ran}
 use Rattle.heads.specs.declared.rig.Rig.{Rig}
 use Rattle.heads.specs.Rigs.{means}
 use Rattle.heads.proofs.Rigs.{job_timed}
 use Rattle.heads.specs.declared.motion.Motion.TheVariants.{Stepwise}
 use Rattle.heads.proofs.Axes.{each_of, all_of}
-use Rattle.heads.proofs.Lawful.{Moved, Apart, moved_one, moved_two}
+use Rattle.head.proofs.Apart.{Apart}
+use Rattle.heads.proofs.Lawful.{Moved, moved_one, moved_two}
 use Rattle.heads.proofs.Spans.{moves}
 use Rattle.heads.specs.Punctual.{in_time, punctual, OnTime, is_jammed}
 

@@ -1,5 +1,5 @@
 -- What our heads do, exactly: the ticks that they choose, every setting after a tick, and how orders end.
-use Rattle.std.specs.Prelude.{◌≡◌, ℕ, ◌+◌, ◌-◌, ◌/◌, ◌%◌, min, max, Bool, true, false, cond, ◌&&◌, ℤ, ◌-ℤ◌, Some, None, Option, int_le, nat_lt, unsigned_abs}
+use Rattle.std.specs.Prelude.{◌≡◌, ℕ, ◌+◌, ◌/◌, ◌%◌, min, max, Bool, true, false, cond, ◌&&◌, ℤ, ◌-ℤ◌, Some, None, Option, int_le, nat_lt, unsigned_abs}
 use Rattle.head.specs.declared.order.Order.{Order}
 use Rattle.head.specs.declared.order.Paces.{Paces}
 use Rattle.head.specs.declared.outcome.Ending.{Ending}
@@ -10,7 +10,7 @@ use Rattle.head.specs.declared.setting.Axis.TheVariants.{Zoom, Focus, Pan, Tilt}
 use Rattle.head.specs.declared.setting.Setting.{Setting}
 use Rattle.head.specs.Settings.{about, position, drive}
 use Rattle.head.specs.Orders.{parts, wants}
-use Rattle.head.specs.Meaning.{Slot, idle, busy, Slots, Meaning}
+use Rattle.head.specs.Meaning.{Slot, idle, busy, Slots, Meaning, rest}
 use Rattle.heads.specs.declared.job.Job.{Job}
 use Rattle.heads.specs.declared.motion.Motion.{Motion}
 use Rattle.heads.specs.declared.motion.Motion.TheVariants.{AtOnce, Stepwise, Stalled}
@@ -59,11 +59,6 @@ arrived o f = there o f Zoom && there o f Focus && there o f Pan && there o f Ti
 abbrev pub told : Slot → (Setting → ℤ) → Option Ending
 told idle f = None
 told (busy o n) f = cond (nat_lt 1 n) None (Some (cond (arrived o f) Done Jammed))
-
--- what a tick leaves in a slot
-abbrev pub rest : Slot → Slot
-rest idle = idle
-rest (busy o n) = cond (nat_lt 1 n) (busy o (n - 1)) idle
 
 -- Settings after a tick that tells how the orders fared, where f has the settings before.
 

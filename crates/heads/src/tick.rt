@@ -3,9 +3,9 @@
 ghost use Rattle.std.specs.Prelude.{◌≡◌, Bool};
 ghost use Rattle.head.specs.declared.setting.Setting.{Setting as S};
 ghost use Rattle.head.specs.Settings.{about};
-ghost use Rattle.head.specs.Meaning.{busy};
+ghost use Rattle.head.specs.Meaning.{busy, rest};
 ghost use Rattle.head.specs.Values.{value_of};
-ghost use Rattle.heads.specs.Exact.{slot_of, rest, pulled as pulled_by, unnamed as unnamed_by, next as next_by, Ran};
+ghost use Rattle.heads.specs.Exact.{slot_of, pulled as pulled_by, unnamed as unnamed_by, next as next_by, Ran};
 ghost use Rattle.heads.specs.Rigs.{means, slots_of, foretold};
 
 use crate::job::Job;

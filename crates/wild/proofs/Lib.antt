@@ -1,4 +1,3 @@
 pub mod Ways
-pub mod Apart
 pub mod Steps
 pub mod Ticks

@@ -10,6 +10,7 @@ use Rattle.head.specs.declared.setting.Setting.{Setting}
 use Rattle.head.specs.Settings.{about, number, same, in_range, position, drive}
 use Rattle.head.specs.Orders.{parts}
 use Rattle.head.specs.Meaning.{Meaning, Between, Pulled, Driven, wanted}
+use Rattle.head.proofs.Apart.{other_none}
 use Rattle.head.proofs.Bounds.{between_in_range}
 use Rattle.head.proofs.Options.{no_some, some_out}
 use Rattle.head.proofs.Tables.{position_is, same_is}
@@ -66,11 +67,6 @@ led_named (Some u) x e v t d (Some y) i l = subst (λ (z : ℤ). Pulled x e v z 
 led_not : (w : Option ℤ) (x : Option Axis) (e : Option Ending) (v d : ℤ) (r : Option ℤ) → w ≡ None → Leads w x e v r → unwrap_or r d ≡ d
 led_not None x e v d r i l = simp l
 led_not (Some u) x e v d r i l = cc
-
-other_none : (x y : Option ℤ) (t : ℤ) → (is_some x && is_some y) ≡ false → y ≡ Some t → x ≡ None
-other_none None y t h e = refl
-other_none (Some s) None t h e = cc
-other_none (Some s) (Some u) t h e = cc
 
 or_default : (r q : Option ℤ) (d : ℤ) → unwrap_or (option_or r q) d ≡ unwrap_or r (unwrap_or q d)
 or_default None q d = refl

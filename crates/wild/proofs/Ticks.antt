@@ -4,13 +4,13 @@ use Rattle.std.proofs.lemmas.Bool.{cond_both}
 use Rattle.head.specs.declared.outcome.Endings.{Endings}
 use Rattle.head.specs.declared.setting.Setting.{Setting}
 use Rattle.head.specs.Settings.{position}
-use Rattle.head.specs.Meaning.{Slot, idle, busy, Meaning, SlotTicked, Ticked, wanted}
+use Rattle.head.specs.Meaning.{Slot, idle, busy, Meaning, rest, SlotTicked, Ticked, wanted}
+use Rattle.head.proofs.Apart.{Apart, apart_sym}
 use Rattle.head.proofs.Relax.{lawful}
 use Rattle.head.proofs.Tables.{axis_is}
 use Rattle.wild.specs.declared.work.Work.{Work}
-use Rattle.wild.specs.Works.{slot_of, rest}
+use Rattle.wild.specs.Works.{slot_of}
 use Rattle.wild.specs.Wilds.{Goes}
-use Rattle.wild.proofs.Apart.{Apart, apart_sym}
 
 pub ticked : (m m' : Meaning) (e : Endings) → m'.pantilt ≡ m.pantilt → SlotTicked m.slots.one e.one m'.slots.one → SlotTicked m.slots.two e.two m'.slots.two
     → ((s : Setting) → Goes m e s (m'.setting s)) → Ticked m e m'

@@ -3,9 +3,9 @@
 ghost use Rattle.std.specs.Prelude.{◌≡◌, true, ◌≤ℤ◌};
 ghost use Rattle.head.specs.declared.setting.Setting.{Setting as S};
 ghost use Rattle.head.specs.Settings.{about, in_range, position, drive};
-ghost use Rattle.head.specs.Meaning.{busy, wanted, SlotTicked, Driven, Ticked};
+ghost use Rattle.head.specs.Meaning.{busy, wanted, rest, SlotTicked, Driven, Ticked};
 ghost use Rattle.head.specs.Values.{value_of};
-ghost use Rattle.wild.specs.Works.{slot_of, rest};
+ghost use Rattle.wild.specs.Works.{slot_of};
 ghost use Rattle.wild.specs.Wilds.{means, Leads, Alone, Goes};
 
 use crate::dice::Dice;

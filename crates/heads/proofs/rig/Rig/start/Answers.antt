@@ -2,10 +2,9 @@ use Rattle.std.proofs.Common.{◌≡◌, ◌≤◌, true, rules}
 use Rattle.std.proofs.lemmas.Bool.{ne_eqb}
 use Rattle.head.specs.Meaning.{busy, order_in}
 use Rattle.head.specs.Orders.{parts, all_in_range}
+use Rattle.head.proofs.Apart.{apart_sym, apart_held}
 use Rattle.head.proofs.Starts.{targets_in_range, not_in_use}
 use Rattle.heads.specs.Exact.{slot_of}
-use Rattle.heads.proofs.Apart.{apart_held}
-use Rattle.heads.proofs.Lawful.{apart_sym}
 use Rattle.heads.proofs.Spans.{few_of}
 use Rattle.heads.proofs.rig.Rig.start.Goals as goal
 

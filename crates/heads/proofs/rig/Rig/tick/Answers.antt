@@ -1,9 +1,9 @@
 use Rattle.std.proofs.Common.{◌≡◌, Some, None, Option, MatchOption, refl, ap, ◌∙◌}
 use Rattle.head.specs.declared.outcome.Endings.{Endings}
-use Rattle.head.specs.Meaning.{Meaning, busy}
+use Rattle.head.specs.Meaning.{Meaning, busy, rest}
 use Rattle.head.specs.Values.{value_of}
 use Rattle.heads.specs.declared.job.Job.{Job}
-use Rattle.heads.specs.Exact.{slot_of, rest}
+use Rattle.heads.specs.Exact.{slot_of}
 use Rattle.heads.specs.Rigs.{means}
 use Rattle.heads.proofs.Lawful.{moved_one, moved_two, foretold_is}
 use Rattle.heads.proofs.rig.Rig.tick.Goals as goal

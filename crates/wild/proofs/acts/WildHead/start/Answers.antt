@@ -1,10 +1,10 @@
 use Rattle.std.proofs.Common.{◌≡◌, ◌+◌, inl, inr, arith}
 use Rattle.std.proofs.lemmas.Bool.{ne_eqb}
 use Rattle.head.specs.Meaning.{busy, order_in}
+use Rattle.head.proofs.Apart.{apart_sym, apart_held}
 use Rattle.head.proofs.Starts.{slot_one_or_two, not_in_use, takes}
 use Rattle.wild.specs.Works.{slot_of}
 use Rattle.wild.specs.Wilds.{means}
-use Rattle.wild.proofs.Apart.{apart_sym, apart_held}
 use Rattle.wild.proofs.acts.WildHead.start.Goals as goal
 
 pub invariant_of-self : goal.invariant_of-self

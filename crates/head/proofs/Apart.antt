@@ -22,3 +22,9 @@ apart_held (busy p k) o n h s = by (wants (parts o.targets) s) refl
     by : (w : Option ℤ) → wants (parts o.targets) s ≡ w → (is_some (wanted (busy o n) s) && is_some (wanted (busy p k) s)) ≡ false
     by None e = simp e
     by (Some t) e = simp (e, apart (parts o.targets) (parts p.targets) h s t e)
+
+-- where the second wants a value, the first wants none
+pub other_none : (x y : Option ℤ) (t : ℤ) → (is_some x && is_some y) ≡ false → y ≡ Some t → x ≡ None
+other_none None y t h e = refl
+other_none (Some s) None t h e = cc
+other_none (Some s) (Some u) t h e = cc
