@@ -83,7 +83,7 @@ hears k b = receives k (standing_after k.standing b) (made_whole k.standing b)
 
 -- Bytes that go out.
 
--- cut into packets, each up to its FF
+-- cut into packets, each up to its FF; a rest with none is left out, and the law says that there is no such rest
 abbrev pub cut_from : List ℕ → List ℕ → List (List ℕ)
 cut_from begun [] = []
 cut_from begun (b ∷ bs) = cond (b == 0xff) ((begun ++ b ∷ []) ∷ cut_from [] bs) (cut_from (begun ++ b ∷ []) bs)
