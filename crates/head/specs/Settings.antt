@@ -99,3 +99,7 @@ drive axis.Zoom = ZoomDrive
 drive axis.Focus = FocusDrive
 drive axis.Pan = PanDrive
 drive axis.Tilt = TiltDrive
+
+-- the axes by the numbers of their positions
+abbrev pub axes : List Axis
+axes = axis.Zoom ∷ axis.Focus ∷ axis.Pan ∷ axis.Tilt ∷ []

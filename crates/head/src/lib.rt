@@ -15,6 +15,7 @@ pub mod settings;
 pub mod start;
 pub mod table;
 pub mod target;
+pub mod theorems;
 pub mod traits;
 
 pub use by_name::value;

@@ -131,7 +131,7 @@ impl Range {
 }
 
 impl Axis {
-    /// The axes, each once.
+    /// The axes by the numbers of their positions.
     pub const ALL: [Axis; 4] = [Axis::Zoom, Axis::Focus, Axis::Pan, Axis::Tilt];
 
     /// The setting that tells where the axis stands.
