@@ -1,0 +1,5 @@
+pub mod Lengths
+pub mod Ticks
+pub mod Silences
+pub mod Words
+pub mod Theorems

@@ -1,0 +1,33 @@
+-- Quiet reads: what is counted, and what it tells of the line.
+use Rattle.std.specs.Prelude.{ℕ, ◌+◌, ◌-◌, ◌%◌, ◌^◌, Bool, false, cond, ◌&&◌, min, Some, None, Option, ◌==◌, nat_le, nat_lt}
+use Rattle.serial.specs.declared.silence.Hearing.{Hearing}
+use Rattle.serial.specs.declared.silence.Hearing.TheVariants.{On, Quiet, Gone}
+use Rattle.serial.specs.declared.silence.Silence.{Silence}
+use Rattle.serial.specs.declared.silence.TheConstants.{QUIET_READS, LEAST_TIME}
+
+-- quiet reads in a row, with one more
+abbrev pub more : Silence → ℕ
+more s = min (s.reads + 1) (2 ^ 64 - 1)
+
+-- the last of a hundred
+abbrev pub whole : Silence → Bool
+whole s = more s % QUIET_READS == 0
+
+-- after a read of so many bytes
+abbrev pub heard : Silence → ℕ → ℕ → Silence
+heard s count now = record {
+  reads = cond (count == 0) (more s) 0;
+  since = cond (count == 0) (cond (whole s) now s.since) now;
+}
+
+-- as many quiet reads as the program was told to wait for
+abbrev pub enough : Option ℕ → ℕ → Bool
+enough None n = false
+enough (Some most) n = nat_le most n
+
+abbrev pub hearing : Silence → ℕ → ℕ → Option ℕ → Hearing
+hearing s count now quiet =
+    cond (nat_lt 0 count) On
+    (cond (whole s && nat_lt (now - s.since) LEAST_TIME) Gone
+    (cond (enough quiet (more s)) Quiet
+    On))

@@ -1,0 +1,106 @@
+//! The words with which the program is called: `HEAD [TICK_MS [QUIET]]`.
+
+ghost use Rattle.std.specs.Prelude.{◌≡◌};
+ghost use Rattle.serial.specs.Words.{arguments, head_named, length_of, reads_of, number};
+
+use crate::ticks::TickLength;
+use std::error::Error;
+use std::fmt;
+
+/// The heads that a box can have.
+#[derive(Clone, Copy, Debug, PartialEq, Eq)]
+pub enum HeadKind {
+    Block,
+    Dome,
+    StalledDome,
+}
+
+/// What the program was called with.
+#[derive(Clone, Copy, Debug, PartialEq, Eq)]
+pub struct Arguments {
+    pub head: HeadKind,
+    pub tick: TickLength,
+    /// After how many quiet reads in a row to end; with none it goes on.
+    pub quiet: Option<u32>,
+}
+
+/// What is wrong with the words.
+#[derive(Clone, Copy, Debug, PartialEq, Eq)]
+pub enum ArgumentsError {
+    NoHead,
+    NoSuchHead,
+    NoTickLength,
+    NoCountOfReads,
+    TooMany,
+}
+
+impl fmt::Display for ArgumentsError {
+    fn fmt<W: fmt::Write>(&self, f: &mut fmt::Formatter<W>) -> fmt::Result {
+        f.write_str(match self {
+            ArgumentsError::NoHead => "a head is missing",
+            ArgumentsError::NoSuchHead => "there is no such head",
+            ArgumentsError::NoTickLength => "TICK_MS is a number from 1 to 60000",
+            ArgumentsError::NoCountOfReads => "QUIET is a number from 1 to 4294967295",
+            ArgumentsError::TooMany => "there is a word too many",
+        })
+    }
+}
+
+impl Error for ArgumentsError {}
+
+// A decimal number of digits alone, if it fits 32 bits.
+fn number_of(word: &str) -> Option<u32>
+    ensures { result ≡ number word.now }
+{
+    if word.starts_with('+') {
+        return None;
+    }
+    word.parse().ok()
+}
+
+fn head_of(word: &str) -> Result<HeadKind, ArgumentsError>
+    ensures { result ≡ head_named word.now }
+{
+    match word {
+        "block" => Ok(HeadKind::Block),
+        "dome" => Ok(HeadKind::Dome),
+        "stalled" => Ok(HeadKind::StalledDome),
+        _ => Err(ArgumentsError::NoSuchHead),
+    }
+}
+
+fn tick_length_of(word: &str) -> Result<TickLength, ArgumentsError>
+    ensures { result ≡ length_of word.now }
+{
+    number_of(word)
+        .and_then(TickLength::new)
+        .ok_or(ArgumentsError::NoTickLength)
+}
+
+fn quiet_reads_of(word: &str) -> Result<u32, ArgumentsError>
+    ensures { result ≡ reads_of word.now }
+{
+    number_of(word)
+        .filter(|reads| *reads > 0)
+        .ok_or(ArgumentsError::NoCountOfReads)
+}
+
+impl Arguments {
+    /// The words as arguments, or what is wrong with the first that is wrong.
+    pub fn parse(words: &[&str]) -> Result<Arguments, ArgumentsError>
+        ensures { result ≡ arguments words.now }
+    {
+        let (head, tick, quiet) = match words {
+            [] => return Err(ArgumentsError::NoHead),
+            [head] => (head_of(head)?, TickLength::USUAL, None),
+            [head, tick] => (head_of(head)?, tick_length_of(tick)?, None),
+            [head, tick, quiet] => (
+                head_of(head)?,
+                tick_length_of(tick)?,
+                Some(quiet_reads_of(quiet)?),
+            ),
+            _ => return Err(ArgumentsError::TooMany),
+        };
+        Ok(Arguments { head, tick, quiet })
+    }
+}
