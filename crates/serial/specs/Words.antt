@@ -1,6 +1,7 @@
 -- What words mean as arguments.
-use Rattle.std.specs.Prelude.{◌≡◌, ℕ, ◌^◌, Bool, true, false, cond, ◌&&◌, List, [], ◌∷◌, length, Some, None, Ok, Err, Option, Result, ◌==◌, nat_lt, nat_le, codes}
-use Rattle.std.specs.Char.{digit_value}
+use Rattle.std.specs.Prelude.{ℕ, ◌^◌, Bool, true, cond, ◌&&◌, List, [], ◌∷◌, length, Some, None, Ok, Err, Option, Result, nat_lt, codes}
+use Rattle.std.specs.Char.{is_digit}
+use Rattle.std.specs.Str.{bytes_eq}
 use Rattle.std.specs.Str.Parse.{digits_value}
 use Rattle.serial.specs.declared.arguments.Arguments.{Arguments}
 use Rattle.serial.specs.declared.arguments.ArgumentsError.{ArgumentsError}
@@ -9,22 +10,16 @@ use Rattle.serial.specs.declared.arguments.HeadKind.{HeadKind}
 use Rattle.serial.specs.declared.arguments.HeadKind.TheVariants.{Block, Dome, StalledDome}
 use Rattle.serial.specs.Lengths.{is_length}
 
-abbrev pub same : List ℕ → List ℕ → Bool
-same [] [] = true
-same [] (d ∷ ds) = false
-same (b ∷ bs) [] = false
-same (b ∷ bs) (d ∷ ds) = b == d && same bs ds
-
 abbrev pub head_named : List ℕ → Result HeadKind ArgumentsError
 head_named w =
-    cond (same w (codes "block")) (Ok Block)
-    (cond (same w (codes "dome")) (Ok Dome)
-    (cond (same w (codes "stalled")) (Ok StalledDome)
+    cond (bytes_eq w (codes "block")) (Ok Block)
+    (cond (bytes_eq w (codes "dome")) (Ok Dome)
+    (cond (bytes_eq w (codes "stalled")) (Ok StalledDome)
     (Err NoSuchHead)))
 
 abbrev pub all_digits : List ℕ → Bool
 all_digits [] = true
-all_digits (c ∷ cs) = nat_lt (digit_value c) 10 && all_digits cs
+all_digits (c ∷ cs) = is_digit c 10 && all_digits cs
 
 -- the number that a word of decimal digits alone writes, if it is below 2 ^ 32
 abbrev pub number : List ℕ → Option ℕ

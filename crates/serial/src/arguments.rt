@@ -1,6 +1,6 @@
 //! The words with which the program is called: `HEAD [TICK_MS [QUIET]]`.
 
-ghost use Rattle.std.specs.Prelude.{◌≡◌};
+ghost use Rattle.std.specs.Prelude.{◌≡◌, map};
 ghost use Rattle.serial.specs.Words.{arguments, head_named, length_of, reads_of, number};
 
 use crate::ticks::TickLength;
@@ -88,7 +88,7 @@ fn quiet_reads_of(word: &str) -> Result<u32, ArgumentsError>
 impl Arguments {
     /// The words as arguments, or what is wrong with the first that is wrong.
     pub fn parse(words: &[&str]) -> Result<Arguments, ArgumentsError>
-        ensures { result ≡ arguments words.now }
+        ensures { result ≡ arguments (map (λ w. w.now) words.now) }
     {
         let (head, tick, quiet) = match words {
             [] => return Err(ArgumentsError::NoHead),
