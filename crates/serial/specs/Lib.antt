@@ -2,4 +2,5 @@ pub mod Lengths
 pub mod Ticks
 pub mod Silences
 pub mod Words
+pub mod Turns
 pub mod Theorems

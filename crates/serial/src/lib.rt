@@ -4,11 +4,13 @@
 #![tactic(auto)]
 
 mod arguments;
+mod port;
 mod silence;
 mod theorems;
 mod ticks;
 
 pub use arguments::{Arguments, ArgumentsError, HeadKind};
+pub use port::Port;
 pub use silence::{Hearing, Silence};
 pub use theorems::reads_owe_together;
 pub use ticks::{MOST_AT_ONCE, TickLength, Ticks};

@@ -1,0 +1,145 @@
+-- Calls answered in turn, put together.
+use Rattle.std.proofs.Common.{◌≡◌, ℕ, ◌+◌, ◌-◌, ◌<◌, map, take, drop, replicate, get_or, arith, List, [], ◌∷◌, ◌++◌, length, Option, Some, None, Ok, Err, Result, sym, ap, ◌∙◌, refl, subst, append_assoc, append-nil}
+use Rattle.std.specs.Io.KnownBytes.{Appends}
+use Rattle.std.specs.Result.{OnOk, OnErr}
+use Rattle.end.specs.declared.call.Call.{Call}
+use Rattle.std.proofs.lemmas.List.{take_more, take-append-drop, map-append, replicate-append-replicate}
+use Rattle.end.specs.declared.call.Call.TheVariants.{Byte, Tick}
+use Rattle.end.specs.Book.{Entry}
+use Rattle.end.specs.Faults.{Answer}
+use Rattle.end.specs.Law.{Run, calls_of, sent_by, room_for, entry}
+use Rattle.end.specs.Law as law
+use Rattle.end.specs.States.{State, InRange}
+use Rattle.end.specs.Steps.{Step}
+use Rattle.end.proofs.Runs.{sockets_agree_in_every_run}
+use Rattle.head.specs.Meaning.{Meaning}
+use Rattle.serial.specs.Turns.{After, none, then, LawfulBehind, Answered, Failed}
+
+run_behind : {m : Meaning} {before : List Entry} {s : State} {h : List Entry} {s' : State} → After s h s' → Run m before s → Run m (h ++ before) s'
+run_behind none r = r
+run_behind (then e a x room step ranged) r = law.then e a (run_behind x r) step ranged
+
+behind : {h : List Entry} {s s' : State} → After s h s' → LawfulBehind s h s'
+behind x m before r = sockets_agree_in_every_run m _ _ (run_behind x r)
+
+pub one : {c : Call} {s s' : State} (a : Answer) (sent : List ℕ) → Step s c (room_for c 16) a sent s' → InRange s' → After s (entry c (room_for c 16) sent ∷ []) s'
+one a sent step ranged = then _ a none refl step ranged
+
+pub one_answered : {c : Call} {s s' : State} {old new : Option (List ℕ)} (a : Answer) (sent : List ℕ) →
+    Step s c (room_for c 16) a sent s' → InRange s' → Appends old new sent → Answered (c ∷ []) s s' old new
+one_answered a sent step ranged w = let x = one a sent step ranged in record { entries = _; asked = refl; made = x; law = behind x; written = w }
+
+pub one_failed : {c : Call} {s s' : State} (a : Answer) (sent : List ℕ) →
+    Step s c (room_for c 16) a sent s' → InRange s' → 0 < length sent → Failed (c ∷ []) s s'
+one_failed a sent step ranged l =
+    let x = one a sent step ranged in
+    record { last = _; before = []; left = []; asked = refl; made = x; law = behind x; lost = l }
+
+pub at_ok : {T E : Type 0} (r : Result T E) {P Q : Type 0} → (P → Q) → OnOk r P → OnOk r Q
+at_ok (Ok x) f p = f p
+at_ok (Err e) f p = tt
+
+pub at_err : {T E : Type 0} (r : Result T E) {P Q : Type 0} → (P → Q) → OnErr r P → OnErr r Q
+at_err (Ok x) f p = tt
+at_err (Err e) f p = f p
+
+-- One after the other.
+
+both : {h : List Entry} {s s' : State} {h' : List Entry} {s'' : State} → After s h s' → After s' h' s'' → After s (h' ++ h) s''
+both x none = x
+both x (then e a y room step ranged) = then e a (both x y) room step ranged
+
+calls_of_both : (h h' : List Entry) → calls_of h ++ calls_of h' ≡ calls_of (h' ++ h)
+calls_of_both h [] = append-nil _
+calls_of_both h (e ∷ h') = sym (append_assoc (calls_of h) (calls_of h') (e.call ∷ [])) ∙ ap (λ (cs : List Call). cs ++ e.call ∷ []) (calls_of_both h h')
+
+sent_by_both : (h h' : List Entry) → sent_by h ++ sent_by h' ≡ sent_by (h' ++ h)
+sent_by_both h [] = append-nil _
+sent_by_both h (e ∷ h') = sym (append_assoc (sent_by h) (sent_by h') e.sent) ∙ ap (λ (bs : List ℕ). bs ++ e.sent) (sent_by_both h h')
+
+appends_both : (old mid new : Option (List ℕ)) (first second : List ℕ) → Appends old mid first → Appends mid new second → Appends old new (first ++ second)
+appends_both None mid new first second p q = tt
+appends_both (Some xs) None new first second p q = absurd p
+appends_both (Some xs) (Some ys) None first second p q = absurd q
+appends_both (Some xs) (Some ys) (Some zs) first second p q = q ∙ ap (λ (l : List ℕ). l ++ second) p ∙ append_assoc xs first second
+
+pub none_answered : {s : State} {old : Option (List ℕ)} → Appends old old [] → Answered [] s s old old
+none_answered w = record { entries = []; asked = refl; made = none; law = behind none; written = w }
+
+pub nothing_appended : (old : Option (List ℕ)) → Appends old old []
+nothing_appended None = tt
+nothing_appended (Some xs) = sym (append-nil xs)
+
+pub answered_both : {cs ds : List Call} {s s' s'' : State} {old mid new : Option (List ℕ)} →
+    Answered cs s s' old mid → Answered ds s' s'' mid new → Answered (cs ++ ds) s s'' old new
+answered_both {cs = cs} {ds = ds} {old = old} {mid = mid} {new = new} p q =
+    let x = both p.made q.made in
+    record {
+      entries = _;
+      asked = sym (calls_of_both p.entries q.entries) ∙ ap (λ (l : List Call). l ++ calls_of q.entries) p.asked ∙ ap (λ (l : List Call). cs ++ l) q.asked;
+      made = x;
+      law = behind x;
+      written = subst (λ (l : List ℕ). Appends old new l) (sent_by_both p.entries q.entries) (appends_both old mid new _ _ p.written q.written);
+    }
+
+pub failed_behind : {cs ds : List Call} {s s' s'' : State} {old mid : Option (List ℕ)} → Answered cs s s' old mid → Failed ds s' s'' → Failed (cs ++ ds) s s''
+failed_behind {cs = cs} {ds = ds} p q =
+    let h = q.last ∷ q.before in
+    let x = both p.made q.made in
+    record {
+      last = q.last;
+      before = q.before ++ p.entries;
+      left = q.left;
+      asked =
+          ap (λ (l : List Call). l ++ q.left) (sym (calls_of_both p.entries h))
+          ∙ append_assoc (calls_of p.entries) (calls_of h) q.left
+          ∙ ap (λ (l : List Call). l ++ (calls_of h ++ q.left)) p.asked
+          ∙ ap (λ (l : List Call). cs ++ l) q.asked;
+      made = x;
+      law = behind x;
+      lost = q.lost;
+    }
+
+-- calls that were still to be made
+pub failed_before : {cs : List Call} (ds : List Call) {s s' : State} → Failed cs s s' → Failed (cs ++ ds) s s'
+failed_before ds q = record {
+  last = q.last;
+  before = q.before;
+  left = q.left ++ ds;
+  asked = sym (append_assoc (calls_of (q.last ∷ q.before)) q.left ds) ∙ ap (λ (l : List Call). l ++ ds) q.asked;
+  made = q.made;
+  law = q.law;
+  lost = q.lost;
+}
+
+-- In a loop, and where it fails.
+
+pub answered_as : {cs ds : List Call} {s s' : State} {old new : Option (List ℕ)} → cs ≡ ds → Answered cs s s' old new → Answered ds s s' old new
+answered_as {s = s} {s' = s'} {old = old} {new = new} e p = subst (λ (l : List Call). Answered l s s' old new) e p
+
+pub failed_as : {cs ds : List Call} {s s' : State} → cs ≡ ds → Failed cs s s' → Failed ds s s'
+failed_as {s = s} {s' = s'} e p = subst (λ (l : List Call). Failed l s s') e p
+
+pub on_err : {T E : Type 0} (r : Result T E) {P : Type 0} → P → OnErr r P
+on_err (Ok x) p = tt
+on_err (Err e) p = p
+
+pub more_bytes : (bs : List ℕ) (i : ℕ) → i < length bs → map Byte (take (i + 1) bs) ≡ map Byte (take i bs) ++ Byte (get_or bs i 0) ∷ []
+more_bytes bs i lt = ap (λ (l : List ℕ). map Byte l) (take_more bs i 0 lt) ∙ map-append Byte (take i bs) (get_or bs i 0 ∷ [])
+
+pub bytes_parted : (bs : List ℕ) (i : ℕ) → i < length bs →
+    (map Byte (take i bs) ++ Byte (get_or bs i 0) ∷ []) ++ map Byte (drop (i + 1) bs) ≡ map Byte bs
+bytes_parted bs i lt =
+    ap (λ (l : List Call). l ++ map Byte (drop (i + 1) bs)) (sym (more_bytes bs i lt))
+    ∙ sym (map-append Byte (take (i + 1) bs) (drop (i + 1) bs))
+    ∙ ap (λ (l : List ℕ). map Byte l) (take-append-drop (i + 1) bs)
+
+pub more_ticks : (k : ℕ) → replicate k Tick ++ Tick ∷ [] ≡ replicate (k + 1) Tick
+more_ticks k = replicate-append-replicate k 1 Tick
+
+pub ticks_parted : (k n : ℕ) → k < n → (replicate k Tick ++ Tick ∷ []) ++ replicate (n - (k + 1)) Tick ≡ replicate n Tick
+ticks_parted k n lt =
+    let all : (k + 1) + (n - (k + 1)) ≡ n = omega arith in
+    ap (λ (l : List Call). l ++ replicate (n - (k + 1)) Tick) (more_ticks k)
+    ∙ replicate-append-replicate (k + 1) (n - (k + 1)) Tick
+    ∙ ap (λ (m : ℕ). replicate m Tick) all

@@ -1,0 +1,17 @@
+use Rattle.std.proofs.Common.{sym}
+use Rattle.serial.proofs.Turned.{none_answered, nothing_appended, answered_both, failed_behind, failed_before, on_err, answered_as, failed_as, more_bytes, bytes_parted}
+use Rattle.serial.proofs.port.answer_bytes.Goals as goal
+
+pub loop-byte-init : goal.loop-byte-init
+loop-byte-init g c = none_answered (nothing_appended _)
+
+pub loop-byte-preserved : goal.loop-byte-preserved
+loop-byte-preserved g c =
+    answered_as (sym (more_bytes c.args.bytes.now c.loop-byte.byte-index c.loop-byte-test.true))
+    (answered_both c.loop-byte.invariant c.in_ok-answer_byte.ensures.answered)
+
+pub returns-in_err-answer_byte-clause-failed : goal.returns-in_err-answer_byte-clause-failed
+returns-in_err-answer_byte-clause-failed g c =
+    on_err c.from_residual.result
+    (failed_as (bytes_parted c.args.bytes.now c.loop-byte.byte-index c.loop-byte-test.true)
+    (failed_before _ (failed_behind c.loop-byte.invariant c.in_err-answer_byte.ensures.failed)))

@@ -1,0 +1,9 @@
+use Rattle.std.proofs.Common.{map, take}
+use Rattle.end.specs.declared.call.Call.TheVariants.{Byte}
+use Rattle.end.specs.States.{state}
+use Rattle.serial.specs.Turns.{Answered}
+use Rattle.serial.proofs.port.answer_bytes.Given as goal
+
+abbrev pub invariant-loop-byte : goal.invariant-loop-byte
+invariant-loop-byte g l =
+    Answered (map Byte (take l.byte-index l.bytes)) (state l.initial.end) (state l.end) (g.W.Write.contents l.initial.line) (g.W.Write.contents l.line)
