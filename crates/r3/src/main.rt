@@ -10,28 +10,14 @@ use head::Head;
 use heads::{Block, Dome};
 use serial::{Arguments, HeadKind, Hearing, Port};
 use std::env;
-use std::io::{ErrorKind, Read};
 use std::process::ExitCode;
-use std::time::Instant;
 
-// Reads and answers until the line is quiet, or for ever.
 fn serve<H: Head + Drop>(rt: &HostRuntime, head: H, arguments: Arguments) -> Result<(), Failure> {
-    let start = Instant::now(rt)?;
-    let mut port = Port::new(head, arguments.tick, arguments.quiet, 0);
-    let mut buffer = [0; 256];
-    for _ in 0..u64::MAX {
-        let count = match rt.stdin().read(&mut buffer) {
-            Err(error) if error.kind() == ErrorKind::Interrupted => continue,
-            read => read?,
-        };
-        let now = u64::try_from(start.elapsed(rt)?.as_millis()).unwrap_or(u64::MAX);
-        match port.turn(&buffer[..count], now, &mut rt.stdout())? {
-            Hearing::On => {}
-            Hearing::Quiet => return Ok(()),
-            Hearing::Gone => return Err(Failure::LineGone),
-        }
+    let mut port = Port::new(head, arguments.tick, arguments.quiet);
+    match port.serve(&mut rt.stdin(), &mut rt.stdout(), rt)? {
+        Hearing::Gone => Err(Failure::LineGone),
+        Hearing::On | Hearing::Quiet => Ok(()),
     }
-    Ok(())
 }
 
 fn run(rt: &HostRuntime) -> Result<(), Failure> {

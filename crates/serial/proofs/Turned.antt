@@ -1,10 +1,11 @@
 -- Calls answered in turn, put together.
-use Rattle.std.proofs.Common.{◌≡◌, ℕ, ◌+◌, ◌-◌, ◌<◌, map, take, drop, replicate, get_or, arith, List, [], ◌∷◌, ◌++◌, length, Option, Some, None, Ok, Err, Result, sym, ap, ◌∙◌, refl, subst, append_assoc, append-nil}
-use Rattle.std.specs.Io.KnownBytes.{Appends}
+use Rattle.std.proofs.Common.{◌≡◌, ℕ, zero, suc, Bool, true, false, ◌+◌, ◌-◌, ◌<◌, map, take, drop, replicate, get_or, arith, List, [], ◌∷◌, ◌++◌, length, Option, Some, None, Ok, Err, Result, sym, ap, ◌∙◌, refl, subst, append_assoc, append-nil}
+use Rattle.std.specs.Io.KnownBytes.{Appends, Consumes, Keeps, ReadConsumes}
 use Rattle.std.specs.Result.{OnOk, OnErr}
+use Rattle.std.proofs.lemmas.Bool.{both_ways}
 use Rattle.end.specs.declared.call.Call.{Call}
 use Rattle.std.proofs.lemmas.List.{take_more, take-append-drop, map-append, replicate-append-replicate}
-use Rattle.end.specs.declared.call.Call.TheVariants.{Byte, Tick}
+use Rattle.end.specs.declared.call.Call.TheVariants.{Byte, Tick, Open}
 use Rattle.end.specs.Book.{Entry}
 use Rattle.end.specs.Faults.{Answer}
 use Rattle.end.specs.Law.{Run, calls_of, sent_by, room_for, entry}
@@ -13,7 +14,7 @@ use Rattle.end.specs.States.{State, InRange}
 use Rattle.end.specs.Steps.{Step}
 use Rattle.end.proofs.Runs.{sockets_agree_in_every_run}
 use Rattle.head.specs.Meaning.{Meaning}
-use Rattle.serial.specs.Turns.{After, none, then, LawfulBehind, Answered, Failed}
+use Rattle.serial.specs.Turns.{After, none, then, LawfulBehind, Answered, Failed, Served, Stopped, bytes_in, calls_in}
 
 run_behind : {m : Meaning} {before : List Entry} {s : State} {h : List Entry} {s' : State} → After s h s' → Run m before s → Run m (h ++ before) s'
 run_behind none r = r
@@ -143,3 +144,90 @@ ticks_parted k n lt =
     ap (λ (l : List Call). l ++ replicate (n - (k + 1)) Tick) (more_ticks k)
     ∙ replicate-append-replicate (k + 1) (n - (k + 1)) Tick
     ∙ ap (λ (m : ℕ). replicate m Tick) all
+
+-- Over many turns.
+
+pub nothing_consumed : (input : Option (List ℕ)) → Consumes input input []
+nothing_consumed None = tt
+nothing_consumed (Some xs) = refl
+
+consumes_both : (a b c : Option (List ℕ)) (first second : List ℕ) → Consumes a b first → Consumes b c second → Consumes a c (first ++ second)
+consumes_both None b c first second p q = tt
+consumes_both (Some xs) None c first second p q = absurd p
+consumes_both (Some xs) (Some ys) None first second p q = absurd q
+consumes_both (Some xs) (Some ys) (Some zs) first second p q = p ∙ ap (λ (l : List ℕ). first ++ l) q ∙ sym (append_assoc first second zs)
+
+consumes_kept : (a b c : Option (List ℕ)) (first : List ℕ) → Consumes a b first → Keeps b c → Consumes a c first
+consumes_kept None b c first p q = tt
+consumes_kept (Some xs) None c first p q = absurd p
+consumes_kept (Some xs) (Some ys) None first p q = absurd q
+consumes_kept (Some xs) (Some ys) (Some zs) first p q = p ∙ ap (λ (l : List ℕ). first ++ l) (sym q)
+
+bytes_in_both : (cs ds : List Call) → bytes_in (cs ++ ds) ≡ bytes_in cs ++ bytes_in ds
+bytes_in_both [] ds = refl
+bytes_in_both (Byte b ∷ cs) ds = ap (λ (l : List ℕ). b ∷ l) (bytes_in_both cs ds)
+bytes_in_both (Tick ∷ cs) ds = bytes_in_both cs ds
+bytes_in_both (Open ∷ cs) ds = bytes_in_both cs ds
+
+bytes_in_bytes : (bs : List ℕ) → bytes_in (map Byte bs) ≡ bs
+bytes_in_bytes [] = refl
+bytes_in_bytes (b ∷ bs) = ap (λ (l : List ℕ). b ∷ l) (bytes_in_bytes bs)
+
+bytes_in_ticks : (n : ℕ) → bytes_in (replicate n Tick) ≡ []
+bytes_in_ticks zero = refl
+bytes_in_ticks (suc n) = bytes_in_ticks n
+
+bytes_in_turn : (bs : List ℕ) (n : ℕ) → bytes_in (calls_in bs n) ≡ bs
+bytes_in_turn bs n =
+    bytes_in_both (map Byte bs) (replicate n Tick)
+    ∙ ap (λ (l : List ℕ). l ++ bytes_in (replicate n Tick)) (bytes_in_bytes bs)
+    ∙ ap (λ (l : List ℕ). bs ++ l) (bytes_in_ticks n)
+    ∙ append-nil bs
+
+pub none_served : {s : State} {input old : Option (List ℕ)} → Served s s input input old old
+none_served {input = input} {old = old} =
+    record { entries = []; made = none; law = behind none; heard = nothing_consumed input; written = nothing_appended old }
+
+pub read_some : {E : Type 0} (old new : Option (List ℕ)) (r : Result ℕ E) (buffer : List ℕ) (n : ℕ) → r ≡ Ok n → ReadConsumes old new r buffer →
+    Consumes old new (take n buffer)
+read_some old new r buffer n e p = let q = subst (λ (x : Result ℕ _). ReadConsumes old new x buffer) e p in q.0
+
+pub broken_off : {E : Type 0} (old new : Option (List ℕ)) (r : Result ℕ E) (buffer : List ℕ) (b : Bool) → OnOk r (b ≡ false) → b ≡ true →
+    ReadConsumes old new r buffer → Keeps old new
+broken_off old new (Ok n) buffer b f t p = absurd (both_ways b f t)
+broken_off old new (Err e) buffer b f t p = p
+
+-- a read that was broken off
+pub served_kept : {s s' : State} {input mid input' old new : Option (List ℕ)} → Served s s' input mid old new → Keeps mid input' → Served s s' input input' old new
+served_kept {input = input} {mid = mid} {input' = input'} p k = record {
+  entries = p.entries;
+  made = p.made;
+  law = p.law;
+  heard = consumes_kept input mid input' _ p.heard k;
+  written = p.written;
+}
+
+-- a turn more
+pub served_more : (bs : List ℕ) (n : ℕ) {s s' s'' : State} {input mid input' old between new : Option (List ℕ)} →
+    Served s s' input mid old between → Consumes mid input' bs → Answered (calls_in bs n) s' s'' between new → Served s s'' input input' old new
+served_more bs n {input = input} {mid = mid} {input' = input'} {old = old} {between = between} {new = new} p r q =
+    let x = both p.made q.made in
+    let bytes : bytes_in (calls_of p.entries) ++ bs ≡ bytes_in (calls_of (q.entries ++ p.entries)) =
+    ap (λ (l : List ℕ). bytes_in (calls_of p.entries) ++ l) (sym (ap (λ (l : List Call). bytes_in l) q.asked ∙ bytes_in_turn bs n))
+    ∙ sym (bytes_in_both (calls_of p.entries) (calls_of q.entries))
+    ∙ ap (λ (l : List Call). bytes_in l) (calls_of_both p.entries q.entries) in
+    record {
+      entries = q.entries ++ p.entries;
+      made = x;
+      law = behind x;
+      heard = subst (λ (l : List ℕ). Consumes input input' l) bytes (consumes_both input mid input' _ _ p.heard r);
+      written = subst (λ (l : List ℕ). Appends old new l) (sent_by_both p.entries q.entries) (appends_both old between new _ _ p.written q.written);
+    }
+
+pub none_made : {s : State} → Stopped s s
+none_made = record { entries = []; made = none; law = behind none }
+
+-- a turn that failed
+pub stopped_in : {cs : List Call} {s s' s'' : State} {input input' old new : Option (List ℕ)} →
+    Served s s' input input' old new → Failed cs s' s'' → Stopped s s''
+stopped_in p q = let x = both p.made q.made in record { entries = _; made = x; law = behind x }

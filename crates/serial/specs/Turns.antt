@@ -1,8 +1,8 @@
 -- What a turn does: calls made in order on an end, and what they send put on the line.
 use Rattle.std.specs.Prelude.{◌≡◌, ℕ, ◌<◌, List, [], ◌∷◌, ◌++◌, length, map, replicate, Option}
-use Rattle.std.specs.Io.KnownBytes.{Appends}
+use Rattle.std.specs.Io.KnownBytes.{Appends, Consumes}
 use Rattle.end.specs.declared.call.Call.{Call}
-use Rattle.end.specs.declared.call.Call.TheVariants.{Byte, Tick}
+use Rattle.end.specs.declared.call.Call.TheVariants.{Byte, Tick, Open}
 use Rattle.end.specs.Book.{Entry}
 use Rattle.end.specs.Faults.{Answer}
 use Rattle.end.specs.Law.{Run, Lawful, calls_of, sent_by, room_for}
@@ -43,3 +43,27 @@ pub record Failed (calls : List Call) (s s' : State) : Type 0 where
   pub made : After s (last ∷ before) s'
   pub law : LawfulBehind s (last ∷ before) s'
   pub lost : 0 < length last.sent
+
+-- Many turns.
+
+-- the bytes among calls
+abbrev pub bytes_in : List Call → List ℕ
+bytes_in [] = []
+bytes_in (Byte b ∷ cs) = b ∷ bytes_in cs
+bytes_in (Tick ∷ cs) = bytes_in cs
+bytes_in (Open ∷ cs) = bytes_in cs
+
+-- Calls were made in turn: their bytes are those that were read, and all that they sent was written, both in order; `input` was still
+-- to be read and then `input'`, the line held `old` and then holds `new`, where that is known.
+pub record Served (s s' : State) (input input' old new : Option (List ℕ)) : Type 0 where
+  pub entries : List Entry
+  pub made : After s entries s'
+  pub law : LawfulBehind s entries s'
+  pub heard : Consumes input input' (bytes_in (calls_of entries))
+  pub written : Appends old new (sent_by entries)
+
+-- calls were made in turn, and then something failed
+pub record Stopped (s s' : State) : Type 0 where
+  pub entries : List Entry
+  pub made : After s entries s'
+  pub law : LawfulBehind s entries s'

@@ -1,20 +1,21 @@
 //! A box at its line: what it does after each read, whatever the line brings and whenever it is read.
 
-ghost use Rattle.std.specs.Prelude.{◌≡◌, ◌<◌, [], ◌∷◌, length, map, replicate, OnOk, OnErr, IfOk};
+ghost use Rattle.std.specs.Prelude.{◌≡◌, ◌<◌, false, [], ◌∷◌, length, map, replicate, OnOk, OnErr, IfOk};
 ghost use Rattle.std.specs.Io.KnownBytes.{Appends};
 ghost use Rattle.end.specs.States.{meaning, state};
 ghost use Rattle.end.specs.Steps.{Made};
 ghost use Rattle.end.specs.declared.call.Call.TheVariants.{Byte, Tick};
 ghost use Rattle.serial.specs.Silences.{heard, hearing};
 ghost use Rattle.serial.specs.Ticks.{owed, paid_at};
-ghost use Rattle.serial.specs.Turns.{Answered, Failed, calls_in};
+ghost use Rattle.serial.specs.Turns.{Answered, Failed, Served, Stopped, calls_in};
 
 use crate::silence::{Hearing, Silence};
 use crate::ticks::{TickLength, Ticks};
 use end::{End, ROOM, bytes_sent};
 use head::{Head, Look};
 use std::io;
-use std::io::Write;
+use std::io::{ErrorKind, Read, Write};
+use std::time::{Clock, Instant};
 
 // Writes what a call sent.
 fn reply<W: Write>(sent: &[u8], line: &mut W) -> io::Result<()>
@@ -66,6 +67,13 @@ fn answer_ticks<H: Head, W: Write>(end: &mut End<H>, ticks: u32, line: &mut W) -
     Ok(())
 }
 
+// Whether a signal broke the read off, before a byte came.
+fn is_interrupted(read: &io::Result<usize>) -> bool
+    ensures { OnOk read.now (result ≡ false) }
+{
+    matches!(read, Err(error) if error.kind() == ErrorKind::Interrupted)
+}
+
 /// An end at a line, with the ticks that the clock owes it and the silence of the line.
 #[derive(Drop)]
 pub struct Port<H: Head> {
@@ -77,23 +85,20 @@ pub struct Port<H: Head> {
 }
 
 impl<H: Head> Port<H> {
-    /// An end made of the head at this time, with no tick owed and nothing quiet yet.
-    pub fn new(head: H, tick: TickLength, quiet: Option<u32>, now: u64) -> Port<H>
+    /// An end made of the head at time 0, with no tick owed and nothing quiet yet.
+    pub fn new(head: H, tick: TickLength, quiet: Option<u32>) -> Port<H>
         ensures end { Made (meaning H.Look H.slots head) (state result.end) }
-        ensures ticks { result.ticks ≡ record { length = tick; paid = now } }
-        ensures silence { result.silence ≡ record { reads = 0; since = now } }
+        ensures ticks { result.ticks ≡ record { length = tick; paid = 0 } }
+        ensures silence { result.silence ≡ record { reads = 0; since = 0 } }
         ensures quiet { result.quiet ≡ quiet }
     {
         Port {
             end: End::make(head),
             ticks: Ticks {
                 length: tick,
-                paid: now,
+                paid: 0,
             },
-            silence: Silence {
-                reads: 0,
-                since: now,
-            },
+            silence: Silence { reads: 0, since: 0 },
             quiet,
         }
     }
@@ -114,5 +119,32 @@ impl<H: Head> Port<H> {
         answer_bytes(&mut self.end, bytes, line)?;
         answer_ticks(&mut self.end, ticks, line)?;
         Ok(hearing)
+    }
+    /// Turn after turn, each after a read and at the time that the clock then tells, until the line is quiet or has
+    /// gone: what ended it, or the first error. Time counts from the call.
+    pub fn serve<R: Read, W: Write, C: Clock>(
+        &mut self,
+        input: &mut R,
+        line: &mut W,
+        clock: &C,
+    ) -> io::Result<Hearing>
+        ensures served { OnOk result (Served (state self.old.end) (state self.new.end) (R.remaining input.old) (R.remaining input.new) (W.contents line.old) (W.contents line.new)) }
+        ensures stopped { OnErr result (Stopped (state self.old.end) (state self.new.end)) }
+    {
+        let start = Instant::now(clock)?;
+        let mut buffer = [0; 256];
+        for _ in 0..u64::MAX {
+            let read = input.read(&mut buffer);
+            if is_interrupted(&read) {
+                continue;
+            }
+            let count = read?;
+            let now = u64::try_from(start.elapsed(clock)?.as_millis()).unwrap_or(u64::MAX);
+            match self.turn(&buffer[..count], now, line)? {
+                Hearing::On => {}
+                ended => return Ok(ended),
+            }
+        }
+        Ok(Hearing::On)
     }
 }
