@@ -1,11 +1,11 @@
 -- Calls answered in turn, put together.
-use Rattle.std.proofs.Common.{◌≡◌, ℕ, zero, suc, Bool, true, false, ◌+◌, ◌-◌, ◌<◌, map, take, drop, replicate, get_or, arith, List, [], ◌∷◌, ◌++◌, length, Option, Some, None, Ok, Err, Result, sym, ap, ◌∙◌, refl, subst, append_assoc, append-nil}
+use Rattle.std.proofs.Common.{◌≡◌, ℕ, Bool, true, false, ◌+◌, ◌-◌, ◌<◌, map, take, drop, replicate, get_or, arith, List, [], ◌∷◌, ◌++◌, length, Option, Some, None, Ok, Err, Result, sym, ap, ◌∙◌, refl, subst, append_assoc, append-nil}
 use Rattle.std.specs.Io.KnownBytes.{Appends, Consumes, Keeps, ReadConsumes}
 use Rattle.std.specs.Result.{OnOk, OnErr}
 use Rattle.std.proofs.lemmas.Bool.{both_ways}
 use Rattle.end.specs.declared.call.Call.{Call}
 use Rattle.std.proofs.lemmas.List.{take_more, take-append-drop, map-append, replicate-append-replicate}
-use Rattle.end.specs.declared.call.Call.TheVariants.{Byte, Tick, Open}
+use Rattle.end.specs.declared.call.Call.TheVariants.{Byte, Tick}
 use Rattle.end.specs.Book.{Entry}
 use Rattle.end.specs.Faults.{Answer}
 use Rattle.end.specs.Law.{Run, calls_of, sent_by, room_for, entry}
@@ -14,7 +14,9 @@ use Rattle.end.specs.States.{State, InRange}
 use Rattle.end.specs.Steps.{Step}
 use Rattle.end.proofs.Runs.{sockets_agree_in_every_run}
 use Rattle.head.specs.Meaning.{Meaning}
-use Rattle.serial.specs.Turns.{After, none, then, LawfulBehind, Answered, Failed, Served, Stopped, bytes_in, calls_in}
+use Rattle.serial.specs.Turns.{After, none, then, LawfulBehind, Answered, Failed, Served, Stopped, Turn, bytes_of, ticks_after, calls_over, calls_in}
+use Rattle.serial.specs.declared.ticks.Ticks.{Ticks}
+use Rattle.serial.specs.Ticks.{owed, paid_at}
 
 run_behind : {m : Meaning} {before : List Entry} {s : State} {h : List Entry} {s' : State} → After s h s' → Run m before s → Run m (h ++ before) s'
 run_behind none r = r
@@ -163,30 +165,31 @@ consumes_kept (Some xs) None c first p q = absurd p
 consumes_kept (Some xs) (Some ys) None first p q = absurd q
 consumes_kept (Some xs) (Some ys) (Some zs) first p q = p ∙ ap (λ (l : List ℕ). first ++ l) (sym q)
 
-bytes_in_both : (cs ds : List Call) → bytes_in (cs ++ ds) ≡ bytes_in cs ++ bytes_in ds
-bytes_in_both [] ds = refl
-bytes_in_both (Byte b ∷ cs) ds = ap (λ (l : List ℕ). b ∷ l) (bytes_in_both cs ds)
-bytes_in_both (Tick ∷ cs) ds = bytes_in_both cs ds
-bytes_in_both (Open ∷ cs) ds = bytes_in_both cs ds
+bytes_of_more : (xs : List Turn) (x : Turn) → bytes_of (xs ++ x ∷ []) ≡ bytes_of xs ++ x.bytes
+bytes_of_more [] x = append-nil x.bytes
+bytes_of_more (y ∷ xs) x = ap (λ (l : List ℕ). y.bytes ++ l) (bytes_of_more xs x) ∙ sym (append_assoc y.bytes (bytes_of xs) x.bytes)
 
-bytes_in_bytes : (bs : List ℕ) → bytes_in (map Byte bs) ≡ bs
-bytes_in_bytes [] = refl
-bytes_in_bytes (b ∷ bs) = ap (λ (l : List ℕ). b ∷ l) (bytes_in_bytes bs)
+ticks_after_more : (t : Ticks) (xs : List Turn) (x : Turn) → ticks_after t (xs ++ x ∷ []) ≡ paid_at (ticks_after t xs) x.now
+ticks_after_more t [] x = refl
+ticks_after_more t (y ∷ xs) x = ticks_after_more (paid_at t y.now) xs x
 
-bytes_in_ticks : (n : ℕ) → bytes_in (replicate n Tick) ≡ []
-bytes_in_ticks zero = refl
-bytes_in_ticks (suc n) = bytes_in_ticks n
+calls_over_more : (t : Ticks) (xs : List Turn) (x : Turn) → calls_over t (xs ++ x ∷ []) ≡ calls_over t xs ++ calls_in x.bytes (owed (ticks_after t xs) x.now)
+calls_over_more t [] x = append-nil _
+calls_over_more t (y ∷ xs) x =
+    ap (λ (l : List Call). calls_in y.bytes (owed t y.now) ++ l) (calls_over_more (paid_at t y.now) xs x)
+    ∙ sym (append_assoc (calls_in y.bytes (owed t y.now)) (calls_over (paid_at t y.now) xs) _)
 
-bytes_in_turn : (bs : List ℕ) (n : ℕ) → bytes_in (calls_in bs n) ≡ bs
-bytes_in_turn bs n =
-    bytes_in_both (map Byte bs) (replicate n Tick)
-    ∙ ap (λ (l : List ℕ). l ++ bytes_in (replicate n Tick)) (bytes_in_bytes bs)
-    ∙ ap (λ (l : List ℕ). bs ++ l) (bytes_in_ticks n)
-    ∙ append-nil bs
-
-pub none_served : {s : State} {input old : Option (List ℕ)} → Served s s input input old old
-none_served {input = input} {old = old} =
-    record { entries = []; made = none; law = behind none; heard = nothing_consumed input; written = nothing_appended old }
+pub none_served : {t : Ticks} {s : State} {input old : Option (List ℕ)} → Served t t s s input input old old
+none_served {input = input} {old = old} = record {
+  turns = [];
+  entries = [];
+  asked = refl;
+  ticks = refl;
+  made = none;
+  law = behind none;
+  heard = nothing_consumed input;
+  written = nothing_appended old;
+}
 
 pub read_some : {E : Type 0} (old new : Option (List ℕ)) (r : Result ℕ E) (buffer : List ℕ) (n : ℕ) → r ≡ Ok n → ReadConsumes old new r buffer →
     Consumes old new (take n buffer)
@@ -198,9 +201,13 @@ broken_off old new (Ok n) buffer b f t p = absurd (both_ways b f t)
 broken_off old new (Err e) buffer b f t p = p
 
 -- a read that was broken off
-pub served_kept : {s s' : State} {input mid input' old new : Option (List ℕ)} → Served s s' input mid old new → Keeps mid input' → Served s s' input input' old new
+pub served_kept : {t t' : Ticks} {s s' : State} {input mid input' old new : Option (List ℕ)} → Served t t' s s' input mid old new → Keeps mid input' →
+    Served t t' s s' input input' old new
 served_kept {input = input} {mid = mid} {input' = input'} p k = record {
+  turns = p.turns;
   entries = p.entries;
+  asked = p.asked;
+  ticks = p.ticks;
   made = p.made;
   law = p.law;
   heard = consumes_kept input mid input' _ p.heard k;
@@ -208,19 +215,25 @@ served_kept {input = input} {mid = mid} {input' = input'} p k = record {
 }
 
 -- a turn more
-pub served_more : (bs : List ℕ) (n : ℕ) {s s' s'' : State} {input mid input' old between new : Option (List ℕ)} →
-    Served s s' input mid old between → Consumes mid input' bs → Answered (calls_in bs n) s' s'' between new → Served s s'' input input' old new
-served_more bs n {input = input} {mid = mid} {input' = input'} {old = old} {between = between} {new = new} p r q =
+pub served_more : (bs : List ℕ) (now : ℕ) {t t' t'' : Ticks} {s s' s'' : State} {input mid input' old between new : Option (List ℕ)} →
+    Served t t' s s' input mid old between → Consumes mid input' bs → Answered (calls_in bs (owed t' now)) s' s'' between new → t'' ≡ paid_at t' now →
+    Served t t'' s s'' input input' old new
+served_more bs now {t = t} {t' = t'} {input = input} {mid = mid} {input' = input'} {old = old} {between = between} {new = new} p r q e =
+    let turn : Turn = record { bytes = bs; now = now } in
     let x = both p.made q.made in
-    let bytes : bytes_in (calls_of p.entries) ++ bs ≡ bytes_in (calls_of (q.entries ++ p.entries)) =
-    ap (λ (l : List ℕ). bytes_in (calls_of p.entries) ++ l) (sym (ap (λ (l : List Call). bytes_in l) q.asked ∙ bytes_in_turn bs n))
-    ∙ sym (bytes_in_both (calls_of p.entries) (calls_of q.entries))
-    ∙ ap (λ (l : List Call). bytes_in l) (calls_of_both p.entries q.entries) in
     record {
+      turns = p.turns ++ turn ∷ [];
       entries = q.entries ++ p.entries;
+      asked =
+          sym (calls_of_both p.entries q.entries)
+          ∙ ap (λ (l : List Call). l ++ calls_of q.entries) p.asked
+          ∙ ap (λ (l : List Call). calls_over t p.turns ++ l) q.asked
+          ∙ ap (λ (u : Ticks). calls_over t p.turns ++ calls_in bs (owed u now)) p.ticks
+          ∙ sym (calls_over_more t p.turns turn);
+      ticks = e ∙ ap (λ (u : Ticks). paid_at u now) p.ticks ∙ sym (ticks_after_more t p.turns turn);
       made = x;
       law = behind x;
-      heard = subst (λ (l : List ℕ). Consumes input input' l) bytes (consumes_both input mid input' _ _ p.heard r);
+      heard = subst (λ (l : List ℕ). Consumes input input' l) (sym (bytes_of_more p.turns turn)) (consumes_both input mid input' _ _ p.heard r);
       written = subst (λ (l : List ℕ). Appends old new l) (sent_by_both p.entries q.entries) (appends_both old between new _ _ p.written q.written);
     }
 
@@ -228,6 +241,6 @@ pub none_made : {s : State} → Stopped s s
 none_made = record { entries = []; made = none; law = behind none }
 
 -- a turn that failed
-pub stopped_in : {cs : List Call} {s s' s'' : State} {input input' old new : Option (List ℕ)} →
-    Served s s' input input' old new → Failed cs s' s'' → Stopped s s''
+pub stopped_in : {cs : List Call} {t t' : Ticks} {s s' s'' : State} {input input' old new : Option (List ℕ)} →
+    Served t t' s s' input input' old new → Failed cs s' s'' → Stopped s s''
 stopped_in p q = let x = both p.made q.made in record { entries = _; made = x; law = behind x }

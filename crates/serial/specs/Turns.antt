@@ -2,13 +2,15 @@
 use Rattle.std.specs.Prelude.{◌≡◌, ℕ, ◌<◌, List, [], ◌∷◌, ◌++◌, length, map, replicate, Option}
 use Rattle.std.specs.Io.KnownBytes.{Appends, Consumes}
 use Rattle.end.specs.declared.call.Call.{Call}
-use Rattle.end.specs.declared.call.Call.TheVariants.{Byte, Tick, Open}
+use Rattle.end.specs.declared.call.Call.TheVariants.{Byte, Tick}
 use Rattle.end.specs.Book.{Entry}
 use Rattle.end.specs.Faults.{Answer}
 use Rattle.end.specs.Law.{Run, Lawful, calls_of, sent_by, room_for}
 use Rattle.end.specs.States.{State, InRange}
 use Rattle.end.specs.Steps.{Step}
 use Rattle.head.specs.Meaning.{Meaning}
+use Rattle.serial.specs.declared.ticks.Ticks.{Ticks}
+use Rattle.serial.specs.Ticks.{owed, paid_at}
 
 -- the calls of a turn: each byte that was read, and then the ticks owed
 abbrev pub calls_in : List ℕ → ℕ → List Call
@@ -46,20 +48,34 @@ pub record Failed (calls : List Call) (s s' : State) : Type 0 where
 
 -- Many turns.
 
--- the bytes among calls
-abbrev pub bytes_in : List Call → List ℕ
-bytes_in [] = []
-bytes_in (Byte b ∷ cs) = b ∷ bytes_in cs
-bytes_in (Tick ∷ cs) = bytes_in cs
-bytes_in (Open ∷ cs) = bytes_in cs
+-- after a read of these bytes, at this time
+pub record Turn : Type 0 where
+  pub bytes : List ℕ
+  pub now : ℕ
 
--- Calls were made in turn: their bytes are those that were read, and all that they sent was written, both in order; `input` was still
--- to be read and then `input'`, the line held `old` and then holds `new`, where that is known.
-pub record Served (s s' : State) (input input' old new : Option (List ℕ)) : Type 0 where
+abbrev pub bytes_of : List Turn → List ℕ
+bytes_of [] = []
+bytes_of (x ∷ xs) = x.bytes ++ bytes_of xs
+
+-- the ticks that were paid, and the calls made, by the ticks owed at each turn
+abbrev pub ticks_after : Ticks → List Turn → Ticks
+ticks_after t [] = t
+ticks_after t (x ∷ xs) = ticks_after (paid_at t x.now) xs
+
+abbrev pub calls_over : Ticks → List Turn → List Call
+calls_over t [] = []
+calls_over t (x ∷ xs) = calls_in x.bytes (owed t x.now) ++ calls_over (paid_at t x.now) xs
+
+-- These turns were made, and no other call. Their bytes are those that were read, and all that was sent was written, both in order:
+-- `input` was still to be read and then `input'`, the line held `old` and then holds `new`, where that is known.
+pub record Served (t t' : Ticks) (s s' : State) (input input' old new : Option (List ℕ)) : Type 0 where
+  pub turns : List Turn
   pub entries : List Entry
+  pub asked : calls_of entries ≡ calls_over t turns
+  pub ticks : t' ≡ ticks_after t turns
   pub made : After s entries s'
   pub law : LawfulBehind s entries s'
-  pub heard : Consumes input input' (bytes_in (calls_of entries))
+  pub heard : Consumes input input' (bytes_of turns)
   pub written : Appends old new (sent_by entries)
 
 -- calls were made in turn, and then something failed

@@ -128,7 +128,7 @@ impl<H: Head> Port<H> {
         line: &mut W,
         clock: &C,
     ) -> io::Result<Hearing>
-        ensures served { OnOk result (Served (state self.old.end) (state self.new.end) (R.remaining input.old) (R.remaining input.new) (W.contents line.old) (W.contents line.new)) }
+        ensures served { OnOk result (Served self.old.ticks self.new.ticks (state self.old.end) (state self.new.end) (R.remaining input.old) (R.remaining input.new) (W.contents line.old) (W.contents line.new)) }
         ensures stopped { OnErr result (Stopped (state self.old.end) (state self.new.end)) }
     {
         let start = Instant::now(clock)?;

@@ -17,9 +17,9 @@ returns-in_err-ended-clause-stopped g c = on_err c.from_residual-in_err-ended.re
 
 pub returns-in_default : goal.returns-in_default
 returns-in_default g c = record {
-  served = served_more _ _ c.loop.invariant (read_some _ _ _ c.read-read.new.buf _ c.in_ok-count.was c.read-read.ensures.bytes) c.in_ok-ended.ensures.answered;
+  served = served_more _ _ c.loop.invariant (read_some _ _ _ c.read-read.new.buf _ c.in_ok-count.was c.read-read.ensures.bytes) c.in_ok-ended.ensures.answered c.turn.ensures.ticks;
   stopped = tt;
 }
 
 pub loop-preserved : goal.loop-preserved
-loop-preserved g c = served_more _ _ c.loop.invariant (read_some _ _ _ c.read-read.new.buf _ c.in_ok-count.was c.read-read.ensures.bytes) c.in_ok-ended.ensures.answered
+loop-preserved g c = served_more _ _ c.loop.invariant (read_some _ _ _ c.read-read.new.buf _ c.in_ok-count.was c.read-read.ensures.bytes) c.in_ok-ended.ensures.answered c.turn.ensures.ticks
