@@ -14,7 +14,11 @@ use Rattle.end.specs.States.{State, InRange}
 use Rattle.end.specs.Steps.{Step}
 use Rattle.end.proofs.Runs.{sockets_agree_in_every_run}
 use Rattle.head.specs.Meaning.{Meaning}
-use Rattle.serial.specs.Turns.{After, none, then, LawfulBehind, Answered, Failed, Served, Stopped, Turn, bytes_of, ticks_after, calls_over, calls_in}
+use Rattle.serial.specs.Turns.{After, none, then, LawfulBehind, Answered, Failed, Served, Stopped, Turn, Box, Told, bytes_of, ticks_after, silence_after, calls_over, calls_in}
+use Rattle.serial.specs.declared.silence.Hearing.{Hearing}
+use Rattle.serial.specs.declared.silence.Hearing.TheVariants.{On}
+use Rattle.serial.specs.declared.silence.Silence.{Silence}
+use Rattle.serial.specs.Silences.{heard, hearing}
 use Rattle.serial.specs.declared.ticks.Ticks.{Ticks}
 use Rattle.serial.specs.Ticks.{owed, paid_at}
 
@@ -179,12 +183,25 @@ calls_over_more t (y ∷ xs) x =
     ap (λ (l : List Call). calls_in y.bytes (owed t y.now) ++ l) (calls_over_more (paid_at t y.now) xs x)
     ∙ sym (append_assoc (calls_in y.bytes (owed t y.now)) (calls_over (paid_at t y.now) xs) _)
 
-pub none_served : {t : Ticks} {s : State} {input old : Option (List ℕ)} → Served t t s s input input old old
+silence_after_more : (k : Silence) (xs : List Turn) (x : Turn) → silence_after k (xs ++ x ∷ []) ≡ heard (silence_after k xs) (length x.bytes) x.now
+silence_after_more k [] x = refl
+silence_after_more k (y ∷ xs) x = silence_after_more (heard k (length y.bytes) y.now) xs x
+
+told_more : (q : Option ℕ) (k : Silence) (xs : List Turn) (x : Turn) {h : Hearing} → Told q k xs On →
+    h ≡ hearing (silence_after k xs) (length x.bytes) x.now q → Told q k (xs ++ x ∷ []) h
+told_more q k [] x p e = e
+told_more q k (y ∷ []) x p e = (p, e)
+told_more q k (y ∷ z ∷ xs) x p e = (p.0, told_more q (heard k (length y.bytes) y.now) (z ∷ xs) x p.1 e)
+
+pub none_served : {b : Box} {input old : Option (List ℕ)} → Served b b On input input old old
 none_served {input = input} {old = old} = record {
   turns = [];
   entries = [];
   asked = refl;
   ticks = refl;
+  silence = refl;
+  quiet = refl;
+  told = refl;
   made = none;
   law = behind none;
   heard = nothing_consumed input;
@@ -201,46 +218,66 @@ broken_off old new (Ok n) buffer b f t p = absurd (both_ways b f t)
 broken_off old new (Err e) buffer b f t p = p
 
 -- a read that was broken off
-pub served_kept : {t t' : Ticks} {s s' : State} {input mid input' old new : Option (List ℕ)} → Served t t' s s' input mid old new → Keeps mid input' →
-    Served t t' s s' input input' old new
+pub served_kept : {b b' : Box} {h : Hearing} {input mid input' old new : Option (List ℕ)} → Served b b' h input mid old new → Keeps mid input' →
+    Served b b' h input input' old new
 served_kept {input = input} {mid = mid} {input' = input'} p k = record {
   turns = p.turns;
   entries = p.entries;
   asked = p.asked;
   ticks = p.ticks;
+  silence = p.silence;
+  quiet = p.quiet;
+  told = p.told;
   made = p.made;
   law = p.law;
   heard = consumes_kept input mid input' _ p.heard k;
   written = p.written;
 }
 
+-- a turn of a box, as `turn` ensures it
+pub record Turned (bs : List ℕ) (now : ℕ) (b b' : Box) (h : Hearing) (old new : Option (List ℕ)) : Type 0 where
+  pub answered : Answered (calls_in bs (owed b.ticks now)) b.end b'.end old new
+  pub ticks : b'.ticks ≡ paid_at b.ticks now
+  pub silence : b'.silence ≡ heard b.silence (length bs) now
+  pub quiet : b'.quiet ≡ b.quiet
+  pub told : h ≡ hearing b.silence (length bs) now b.quiet
+
 -- a turn more
-pub served_more : (bs : List ℕ) (now : ℕ) {t t' t'' : Ticks} {s s' s'' : State} {input mid input' old between new : Option (List ℕ)} →
-    Served t t' s s' input mid old between → Consumes mid input' bs → Answered (calls_in bs (owed t' now)) s' s'' between new → t'' ≡ paid_at t' now →
-    Served t t'' s s'' input input' old new
-served_more bs now {t = t} {t' = t'} {input = input} {mid = mid} {input' = input'} {old = old} {between = between} {new = new} p r q e =
+pub served_more : {bs : List ℕ} {now : ℕ} {b b' b'' : Box} {h : Hearing} {input mid input' old between new : Option (List ℕ)} →
+    Served b b' On input mid old between → Consumes mid input' bs → Turned bs now b' b'' h between new → Served b b'' h input input' old new
+served_more {bs = bs} {now = now} {b = b} {b' = b'} {input = input} {mid = mid} {input' = input'} {old = old} {between = between} {new = new} p r q =
     let turn : Turn = record { bytes = bs; now = now } in
-    let x = both p.made q.made in
+    let t = b.ticks in
+    let k = b.silence in
+    let a = q.answered in
+    let x = both p.made a.made in
     record {
       turns = p.turns ++ turn ∷ [];
-      entries = q.entries ++ p.entries;
+      entries = a.entries ++ p.entries;
       asked =
-          sym (calls_of_both p.entries q.entries)
-          ∙ ap (λ (l : List Call). l ++ calls_of q.entries) p.asked
-          ∙ ap (λ (l : List Call). calls_over t p.turns ++ l) q.asked
+          sym (calls_of_both p.entries a.entries)
+          ∙ ap (λ (l : List Call). l ++ calls_of a.entries) p.asked
+          ∙ ap (λ (l : List Call). calls_over t p.turns ++ l) a.asked
           ∙ ap (λ (u : Ticks). calls_over t p.turns ++ calls_in bs (owed u now)) p.ticks
           ∙ sym (calls_over_more t p.turns turn);
-      ticks = e ∙ ap (λ (u : Ticks). paid_at u now) p.ticks ∙ sym (ticks_after_more t p.turns turn);
+      ticks = q.ticks ∙ ap (λ (u : Ticks). paid_at u now) p.ticks ∙ sym (ticks_after_more t p.turns turn);
+      silence = q.silence ∙ ap (λ (u : Silence). heard u (length bs) now) p.silence ∙ sym (silence_after_more k p.turns turn);
+      quiet = q.quiet ∙ p.quiet;
+      told = told_more b.quiet k p.turns turn p.told
+          (q.told ∙ ap (λ (u : Silence). hearing u (length bs) now b'.quiet) p.silence ∙ ap (λ (u : Option ℕ). hearing (silence_after k p.turns) (length bs) now u) p.quiet);
       made = x;
       law = behind x;
       heard = subst (λ (l : List ℕ). Consumes input input' l) (sym (bytes_of_more p.turns turn)) (consumes_both input mid input' _ _ p.heard r);
-      written = subst (λ (l : List ℕ). Appends old new l) (sent_by_both p.entries q.entries) (appends_both old between new _ _ p.written q.written);
+      written = subst (λ (l : List ℕ). Appends old new l) (sent_by_both p.entries a.entries) (appends_both old between new _ _ p.written a.written);
     }
+
+pub went_on : {h h' : Hearing} → h ≡ On → h ≡ h' → On ≡ h'
+went_on e f = sym e ∙ f
 
 pub none_made : {s : State} → Stopped s s
 none_made = record { entries = []; made = none; law = behind none }
 
 -- a turn that failed
-pub stopped_in : {cs : List Call} {t t' : Ticks} {s s' s'' : State} {input input' old new : Option (List ℕ)} →
-    Served t t' s s' input input' old new → Failed cs s' s'' → Stopped s s''
+pub stopped_in : {cs : List Call} {b b' : Box} {h : Hearing} {s : State} {input input' old new : Option (List ℕ)} →
+    Served b b' h input input' old new → Failed cs b'.end s → Stopped b.end s
 stopped_in p q = let x = both p.made q.made in record { entries = _; made = x; law = behind x }

@@ -6,10 +6,17 @@ use Rattle.end.specs.declared.call.Call.TheVariants.{Byte, Tick}
 use Rattle.end.specs.Book.{Entry}
 use Rattle.end.specs.Faults.{Answer}
 use Rattle.end.specs.Law.{Run, Lawful, calls_of, sent_by, room_for}
-use Rattle.end.specs.States.{State, InRange}
+use Rattle.end.specs.States.{State, InRange, state}
 use Rattle.end.specs.Steps.{Step}
 use Rattle.head.specs.Meaning.{Meaning}
+use Rattle.head.specs.declared.traits.Head.{Ghosts as HeadGhosts}
+use Rattle.head.specs.declared.traits.Look.{Ghosts as LookGhosts}
+use Rattle.serial.specs.declared.port.Port.{Port}
+use Rattle.serial.specs.declared.silence.Hearing.{Hearing}
+use Rattle.serial.specs.declared.silence.Hearing.TheVariants.{On}
+use Rattle.serial.specs.declared.silence.Silence.{Silence}
 use Rattle.serial.specs.declared.ticks.Ticks.{Ticks}
+use Rattle.serial.specs.Silences.{heard, hearing}
 use Rattle.serial.specs.Ticks.{owed, paid_at}
 
 -- the calls of a turn: each byte that was read, and then the ticks owed
@@ -57,7 +64,17 @@ abbrev pub bytes_of : List Turn → List ℕ
 bytes_of [] = []
 bytes_of (x ∷ xs) = x.bytes ++ bytes_of xs
 
--- the ticks that were paid, and the calls made, by the ticks owed at each turn
+-- a box: its end, the ticks paid, the silence of the line, and after how many quiet reads it is quiet
+pub record Box : Type 0 where
+  pub end : State
+  pub ticks : Ticks
+  pub silence : Silence
+  pub quiet : Option ℕ
+
+abbrev pub box : {H : Type 0} {h : HeadGhosts H} {l : LookGhosts H} → Port H h l → Box
+box {h = h} {l = l} p = record { end = state p.end; ticks = p.ticks; silence = p.silence; quiet = p.quiet }
+
+-- the ticks that are paid after turns, the calls made, by the ticks owed at each, and the silence then
 abbrev pub ticks_after : Ticks → List Turn → Ticks
 ticks_after t [] = t
 ticks_after t (x ∷ xs) = ticks_after (paid_at t x.now) xs
@@ -66,15 +83,28 @@ abbrev pub calls_over : Ticks → List Turn → List Call
 calls_over t [] = []
 calls_over t (x ∷ xs) = calls_in x.bytes (owed t x.now) ++ calls_over (paid_at t x.now) xs
 
--- These turns were made, and no other call. Their bytes are those that were read, and all that was sent was written, both in order:
--- `input` was still to be read and then `input'`, the line held `old` and then holds `new`, where that is known.
-pub record Served (t t' : Ticks) (s s' : State) (input input' old new : Option (List ℕ)) : Type 0 where
+abbrev pub silence_after : Silence → List Turn → Silence
+silence_after k [] = k
+silence_after k (x ∷ xs) = silence_after (heard k (length x.bytes) x.now) xs
+
+-- the line went on after each turn but the last, and that one told h
+abbrev pub Told : Option ℕ → Silence → List Turn → Hearing → Type 0
+Told q k [] h = h ≡ On
+Told q k (x ∷ []) h = h ≡ hearing k (length x.bytes) x.now q
+Told q k (x ∷ y ∷ xs) h = (On ≡ hearing k (length x.bytes) x.now q) × Told q (heard k (length x.bytes) x.now) (y ∷ xs) h
+
+-- These turns were made, and no other call, and the last told h. Their bytes are those that were read, and all that was sent was written,
+-- both in order: `input` was still to be read and then `input'`, the line held `old` and then holds `new`, where that is known.
+pub record Served (b b' : Box) (h : Hearing) (input input' old new : Option (List ℕ)) : Type 0 where
   pub turns : List Turn
   pub entries : List Entry
-  pub asked : calls_of entries ≡ calls_over t turns
-  pub ticks : t' ≡ ticks_after t turns
-  pub made : After s entries s'
-  pub law : LawfulBehind s entries s'
+  pub asked : calls_of entries ≡ calls_over b.ticks turns
+  pub ticks : b'.ticks ≡ ticks_after b.ticks turns
+  pub silence : b'.silence ≡ silence_after b.silence turns
+  pub quiet : b'.quiet ≡ b.quiet
+  pub told : Told b.quiet b.silence turns h
+  pub made : After b.end entries b'.end
+  pub law : LawfulBehind b.end entries b'.end
   pub heard : Consumes input input' (bytes_of turns)
   pub written : Appends old new (sent_by entries)
 

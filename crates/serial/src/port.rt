@@ -7,7 +7,7 @@ ghost use Rattle.end.specs.Steps.{Made};
 ghost use Rattle.end.specs.declared.call.Call.TheVariants.{Byte, Tick};
 ghost use Rattle.serial.specs.Silences.{heard, hearing};
 ghost use Rattle.serial.specs.Ticks.{owed, paid_at};
-ghost use Rattle.serial.specs.Turns.{Answered, Failed, Served, Stopped, calls_in};
+ghost use Rattle.serial.specs.Turns.{Answered, Failed, Served, Stopped, box, calls_in};
 
 use crate::silence::{Hearing, Silence};
 use crate::ticks::{TickLength, Ticks};
@@ -128,7 +128,7 @@ impl<H: Head> Port<H> {
         line: &mut W,
         clock: &C,
     ) -> io::Result<Hearing>
-        ensures served { OnOk result (Served self.old.ticks self.new.ticks (state self.old.end) (state self.new.end) (R.remaining input.old) (R.remaining input.new) (W.contents line.old) (W.contents line.new)) }
+        ensures served { IfOk result (λ h. Served (box self.old) (box self.new) h (R.remaining input.old) (R.remaining input.new) (W.contents line.old) (W.contents line.new)) }
         ensures stopped { OnErr result (Stopped (state self.old.end) (state self.new.end)) }
     {
         let start = Instant::now(clock)?;
@@ -140,9 +140,10 @@ impl<H: Head> Port<H> {
             }
             let count = read?;
             let now = u64::try_from(start.elapsed(clock)?.as_millis()).unwrap_or(u64::MAX);
-            match self.turn(&buffer[..count], now, line)? {
+            let hearing = self.turn(&buffer[..count], now, line)?;
+            match hearing {
                 Hearing::On => {}
-                ended => return Ok(ended),
+                Hearing::Quiet | Hearing::Gone => return Ok(hearing),
             }
         }
         Ok(Hearing::On)
