@@ -3,7 +3,6 @@ use Rattle.std.proofs.Common.{◌≡◌, ℕ, ◌+◌, ◌-◌, ◌*◌, ◌/◌
 use Rattle.std.proofs.Math.Nat.{div-mul-le_self, lt-div-mul-add, div-eq_of_lt-le}
 use Rattle.std.proofs.lemmas.Nat.{le-div}
 use Rattle.serial.specs.declared.ticks.Ticks.{Ticks}
-use Rattle.serial.specs.declared.ticks.TheConstants.{MOST_AT_ONCE}
 use Rattle.serial.specs.Theorems.{ReadsOweTogether}
 use Rattle.serial.specs.Ticks.{due, owed, paid_at}
 
@@ -24,14 +23,14 @@ left_over a b n some le =
     div-eq_of_lt-le n (omega arith) (omega arith)
 
 -- with no jump of the clock, what is due is owed, and paid
-due_is_owed : (t : Ticks) (now : ℕ) → due t now ≤ MOST_AT_ONCE → owed t now ≡ due t now
+due_is_owed : (t : Ticks) (now : ℕ) → due t now ≤ 50 → owed t now ≡ due t now
 due_is_owed t now few = search rules
 
-due_is_paid : (t : Ticks) (now : ℕ) → t.paid ≤ now → due t now ≤ MOST_AT_ONCE →
+due_is_paid : (t : Ticks) (now : ℕ) → t.paid ≤ now → due t now ≤ 50 →
     paid_at t now ≡ record { length = t.length; paid = t.paid + due t now * t.length }
 due_is_paid t now forth few = search rules
 
-module _ (t : Ticks) (first second : ℕ) (some : 1 ≤ t.length) (forth : t.paid ≤ first) (later : first ≤ second) (few : due t second ≤ MOST_AT_ONCE) where
+module _ (t : Ticks) (first second : ℕ) (some : 1 ≤ t.length) (forth : t.paid ≤ first) (later : first ≤ second) (few : due t second ≤ 50) where
   abbrev then : Ticks
   then = record { length = t.length; paid = t.paid + due t first * t.length }
 
@@ -49,7 +48,7 @@ module _ (t : Ticks) (first second : ℕ) (some : 1 ≤ t.length) (forth : t.pai
   then_before : then.paid ≤ second
   then_before = let in_first = div-mul-le_self (first - t.paid) t.length in omega arith
 
-  few_then : due then second ≤ MOST_AT_ONCE
+  few_then : due then second ≤ 50
   few_then = let e = due_then in omega arith
 
   ticks : owed t first + owed (paid_at t first) second ≡ owed t second

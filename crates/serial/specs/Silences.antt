@@ -3,7 +3,6 @@ use Rattle.std.specs.Prelude.{ℕ, ◌+◌, ◌-◌, ◌%◌, ◌^◌, Bool, fal
 use Rattle.serial.specs.declared.silence.Hearing.{Hearing}
 use Rattle.serial.specs.declared.silence.Hearing.TheVariants.{On, Quiet, Gone}
 use Rattle.serial.specs.declared.silence.Silence.{Silence}
-use Rattle.serial.specs.declared.silence.TheConstants.{QUIET_READS, LEAST_TIME}
 
 -- quiet reads in a row, with one more
 abbrev pub more : Silence → ℕ
@@ -11,7 +10,7 @@ more s = min (s.reads + 1) (2 ^ 64 - 1)
 
 -- the last of a hundred
 abbrev pub whole : Silence → Bool
-whole s = more s % QUIET_READS == 0
+whole s = more s % 100 == 0
 
 -- after a read of so many bytes
 abbrev pub heard : Silence → ℕ → ℕ → Silence
@@ -28,6 +27,6 @@ enough (Some most) n = nat_le most n
 abbrev pub hearing : Silence → ℕ → ℕ → Option ℕ → Hearing
 hearing s count now quiet =
     cond (nat_lt 0 count) On
-    (cond (whole s && nat_lt (now - s.since) LEAST_TIME) Gone
+    (cond (whole s && nat_lt (now - s.since) 1000) Gone
     (cond (enough quiet (more s)) Quiet
     On))

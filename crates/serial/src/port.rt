@@ -1,7 +1,8 @@
 //! A box at its line: what it does after each read, whatever the line brings and whenever it is read.
 
-ghost use Rattle.std.specs.Prelude.{◌≡◌, ◌<◌, false, [], ◌∷◌, length, map, replicate, OnOk, OnErr, IfOk};
+ghost use Rattle.std.specs.Prelude.{◌≡◌, ◌<◌, false, [], ◌∷◌, length, map, replicate, OnOk, OnErr, IfOk, IfErr, IsTrue, ◌↔◌};
 ghost use Rattle.std.specs.Io.KnownBytes.{Appends};
+ghost use Rattle.std.specs.IoError.{error_kind};
 ghost use Rattle.end.specs.States.{meaning, state};
 ghost use Rattle.end.specs.Steps.{Made};
 ghost use Rattle.end.specs.declared.call.Call.TheVariants.{Byte, Tick};
@@ -69,7 +70,8 @@ fn answer_ticks<H: Head, W: Write>(end: &mut End<H>, ticks: u32, line: &mut W) -
 
 // Whether a signal broke the read off, before a byte came.
 fn is_interrupted(read: &io::Result<usize>) -> bool
-    ensures { OnOk read.now (result ≡ false) }
+    ensures none { OnOk read.now (result ≡ false) }
+    ensures signal { IfErr read.now (λ e. IsTrue result ↔ (error_kind e ≡ ErrorKind.Interrupted)) }
 {
     matches!(read, Err(error) if error.kind() == ErrorKind::Interrupted)
 }

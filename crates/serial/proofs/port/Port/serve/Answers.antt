@@ -10,7 +10,7 @@ loop-init g c = none_served
 pub loop-preserved-then-is_interrupted : goal.loop-preserved-then-is_interrupted
 loop-preserved-then-is_interrupted g c =
     served_kept c.loop.invariant
-    (broken_off _ _ c.read-read.result c.read-read.new.buf c.is_interrupted.result c.is_interrupted.ensures c.if-is_interrupted.true c.read-read.ensures.bytes)
+    (broken_off _ _ c.read-read.result c.read-read.new.buf c.is_interrupted.result c.is_interrupted.ensures.none c.if-is_interrupted.true c.read-read.ensures.bytes)
 
 pub returns-in_err-hearing-clause-stopped : goal.returns-in_err-hearing-clause-stopped
 returns-in_err-hearing-clause-stopped g c = on_err c.from_residual-in_err-hearing.result (stopped_in c.loop.invariant c.in_err-hearing.ensures.failed)
