@@ -1,8 +1,9 @@
 //! A box at its line: what it does after each read, whatever the line brings and whenever it is read.
 
-ghost use Rattle.std.specs.Prelude.{◌≡◌, ◌<◌, false, [], ◌∷◌, length, map, replicate, OnOk, OnErr, IfOk, IfErr, IsTrue, ◌↔◌};
+ghost use Rattle.std.specs.Prelude.{◌≡◌, ◌-◌, ◌/◌, ◌^◌, ◌<◌, min, false, [], ◌∷◌, length, map, replicate, OnOk, OnErr, IfOk, IfErr, IsTrue, ◌↔◌};
 ghost use Rattle.std.specs.Io.KnownBytes.{Appends};
 ghost use Rattle.std.specs.IoError.{error_kind};
+ghost use Rattle.std.specs.Time.{instant_nanos};
 ghost use Rattle.end.specs.States.{meaning, state};
 ghost use Rattle.end.specs.Steps.{Made};
 ghost use Rattle.end.specs.declared.call.Call.TheVariants.{Byte, Tick};
@@ -76,6 +77,13 @@ fn is_interrupted(read: &io::Result<usize>) -> bool
     matches!(read, Err(error) if error.kind() == ErrorKind::Interrupted)
 }
 
+// Whole milliseconds from the start.
+fn milliseconds(start: Instant, now: Instant) -> u64
+    ensures { result ≡ min ((instant_nanos now - instant_nanos start) / 1_000_000) (2 ^ 64 - 1) }
+{
+    u64::try_from(now.duration_since(start).as_millis()).unwrap_or(u64::MAX)
+}
+
 /// An end at a line, with the ticks that the clock owes it and the silence of the line.
 #[derive(Drop)]
 pub struct Port<H: Head> {
@@ -122,6 +130,7 @@ impl<H: Head> Port<H> {
         answer_ticks(&mut self.end, ticks, line)?;
         Ok(hearing)
     }
+
     /// Turn after turn, each after a read and at the time that the clock then tells, until the line is quiet or has
     /// gone: what ended it, or the first error. Time counts from the call.
     pub fn serve<R: Read, W: Write, C: Clock>(
@@ -141,7 +150,7 @@ impl<H: Head> Port<H> {
                 continue;
             }
             let count = read?;
-            let now = u64::try_from(start.elapsed(clock)?.as_millis()).unwrap_or(u64::MAX);
+            let now = milliseconds(start, Instant::now(clock)?);
             let hearing = self.turn(&buffer[..count], now, line)?;
             match hearing {
                 Hearing::On => {}
