@@ -1,0 +1,15 @@
+-- Calls as numbers.
+use Rattle.std.specs.Prelude.{ℕ, ◌-◌, ◌/◌, ◌%◌, cond, nat_lt, nat_eq}
+use Rattle.end.specs.declared.call.Call.{Call}
+use Rattle.end.specs.declared.call.Call.TheVariants.{Byte, Tick, Open}
+
+abbrev called : ℕ → Call
+called n = cond (nat_lt n 256) (Byte n) (cond (nat_eq n 256) Tick Open)
+
+-- the low nine bits are a byte, a tick or the question which sockets are open
+abbrev pub call_of : ℕ → Call
+call_of n = called (n % 512)
+
+-- the bits above tell how many bytes the buffer is short of 16
+abbrev pub room_of : ℕ → ℕ
+room_of n = 16 - n / 512

@@ -1,0 +1,35 @@
+//! Calls made with little around them, for a clock outside.
+
+use crate::asked::Asked;
+use end::{Call, End, bytes_sent};
+use head::Head;
+use heads::{Block, Dome};
+
+fn play<H: Head + Drop>(head: H, calls: &[u16]) -> u64 {
+    let mut end = End::make(head);
+    let mut buffer = [0; 16];
+    let mut sum: u64 = 0;
+    for number in calls {
+        let count = match Asked::from(*number).call {
+            Call::Byte(byte) => bytes_sent(end.byte(byte, &mut buffer)),
+            Call::Tick => bytes_sent(end.tick(&mut buffer)),
+            Call::Open => usize::from(end.open().one),
+        };
+        sum = sum
+            .wrapping_mul(31)
+            .wrapping_add(count as u64)
+            .wrapping_add(u64::from(buffer[1]));
+    }
+    sum
+}
+
+/// Plays calls on a fresh end over a head as `r3_log` does, each with a buffer of 16 bytes, and tells a sum
+/// over the counts and what stood in the buffer, so that no call can be left out. The sum means nothing.
+#[unsafe(no_mangle)]
+pub extern "C" fn r3_time(head: u8, calls: &[u16]) -> u64 {
+    match head {
+        0 => play(Block::new(), calls),
+        1 => play(Dome::new(false), calls),
+        _ => play(Dome::new(true), calls),
+    }
+}
