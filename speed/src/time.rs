@@ -1,0 +1,148 @@
+//! What a byte, a tick and a packet cost at each end.
+
+use crate::calls::{Kind, TICK, bytes};
+use crate::plain::plain_time;
+use crate::proved;
+use crate::traffic::lecture_calls;
+use std::hint::black_box;
+use std::time::Instant;
+
+/// Bytes weigh most in the first list, ticks in the second.
+const STRETCHES: [usize; 2] = [1, 30];
+
+/// A list by name, for callgrind: `bytes` and `ticks`, from which what a byte and a tick cost follows.
+pub fn list(name: &str) -> Vec<u16> {
+    match name {
+        "bytes" => lecture_calls(STRETCHES[0]),
+        "ticks" => lecture_calls(STRETCHES[1]),
+        row => packets(&ROWS[row.parse::<usize>().expect("a row")].1),
+    }
+}
+
+/// The lists with the numbers of bytes and ticks in each, for scripts.
+pub fn lists() {
+    for name in ["bytes", "ticks"] {
+        let [bytes, ticks] = counted(&list(name));
+        println!("{name} {bytes} {ticks}");
+    }
+}
+
+fn counted(calls: &[u16]) -> [f64; 2] {
+    let ticks = calls.iter().filter(|call| **call == TICK).count();
+    [(calls.len() - ticks) as f64, ticks as f64]
+}
+
+fn clock(play: impl Fn() -> u64, times: usize) -> f64 {
+    let begun = Instant::now();
+    for _ in 0..times {
+        black_box(play());
+    }
+    begun.elapsed().as_nanos() as f64 / times as f64
+}
+
+fn median(mut some: Vec<f64>) -> f64 {
+    some.sort_by(f64::total_cmp);
+    some[some.len() / 2]
+}
+
+/// The median nanoseconds of a list at both ends, plain first, in alternating rounds.
+fn both(kind: Kind, calls: &[u16], rounds: usize) -> [f64; 2] {
+    let times = (200_000 / calls.len()).max(1);
+    let mut taken = [Vec::new(), Vec::new()];
+    for _ in 0..rounds {
+        taken[0].push(clock(|| plain_time(kind, black_box(calls)), times));
+        taken[1].push(clock(|| proved::time(kind, black_box(calls)), times));
+    }
+    taken.map(median)
+}
+
+/// What a byte and a tick cost, by two lists with different shares of them.
+fn solved(lists: [[f64; 2]; 2], costs: [f64; 2]) -> [f64; 2] {
+    let [[b, t], [c, u]] = lists;
+    let det = b * u - t * c;
+    [
+        (costs[0] * u - costs[1] * t) / det,
+        (b * costs[1] - c * costs[0]) / det,
+    ]
+}
+
+fn row(name: &str, [plain, proved]: [f64; 2]) {
+    println!(
+        "{name:<34} {plain:>9.2} {proved:>9.2} {:>7.2}",
+        proved / plain
+    );
+}
+
+pub fn time(rounds: usize) {
+    println!(
+        "{:<34} {:>9} {:>9} {:>7}",
+        "nanoseconds", "plain", "proved", "ratio"
+    );
+    for kind in Kind::ALL {
+        let lists = STRETCHES.map(lecture_calls);
+        let counts = [counted(&lists[0]), counted(&lists[1])];
+        let taken = [
+            both(kind, &lists[0], rounds),
+            both(kind, &lists[1], rounds / 10 + 1),
+        ];
+        let [plain, proved] = [0, 1].map(|end| solved(counts, [taken[0][end], taken[1][end]]));
+        row(&format!("{kind:?}, a byte"), [plain[0], proved[0]]);
+        row(&format!("{kind:?}, a tick"), [plain[1], proved[1]]);
+        let all = counts[0][0] + counts[0][1];
+        row(
+            &format!("{kind:?}, a call of the lecture"),
+            taken[0].map(|ns| ns / all),
+        );
+    }
+}
+
+/// A packet for each row; its place in the list is the row's number.
+const ROWS: [(&str, &[u8]); 14] = [
+    ("no row", &[0x81, 0x01, 0x7e, 0x01, 0x02, 0x00, 0x01, 0xff]),
+    ("row 1", &[0x81, 0x01, 0x04, 0x00, 0x02, 0xff]),
+    ("row 2", &[0x81, 0x01, 0x04, 0x07, 0x25, 0xff]),
+    ("row 3", &[0x81, 0x01, 0x04, 0x08, 0x25, 0xff]),
+    ("row 4", &[0x81, 0x01, 0x04, 0x47, 1, 2, 3, 4, 0xff]),
+    ("row 5", &[0x81, 0x01, 0x04, 0x47, 2, 1, 2, 3, 4, 0xff]),
+    ("row 6", &[0x81, 0x01, 0x04, 0x48, 1, 2, 3, 4, 0xff]),
+    ("row 7, code 38", &[0x81, 0x01, 0x04, 0x38, 0x03, 0xff]),
+    (
+        "row 8, code 4D",
+        &[0x81, 0x01, 0x04, 0x4d, 0, 0, 5, 6, 0xff],
+    ),
+    ("row 9", &[0x81, 0x01, 0x04, 0x22, 1, 2, 3, 4, 0xff]),
+    ("row 10", &[0x81, 0x01, 0x06, 0x01, 5, 6, 1, 2, 0xff]),
+    (
+        "row 11",
+        &[0x81, 0x01, 0x06, 0x02, 5, 6, 0, 1, 2, 3, 0, 0, 2, 3, 0xff],
+    ),
+    ("row 12", &[0x81, 0x01, 0x06, 0x04, 0xff]),
+    ("row 7, code 01", &[0x81, 0x01, 0x04, 0x01, 0x03, 0xff]),
+];
+
+const PACKETS: usize = 2000;
+
+/// A packet again and again, at an end with both sockets open: it is read, and answered that there is no
+/// room; so what is timed is framing and reading, and nothing that a command does.
+fn packets(packet: &[u8]) -> Vec<u16> {
+    let mut calls: Vec<u16> = Vec::new();
+    calls.extend(bytes(&[0x88, 0x30, 0x01, 0xff]));
+    calls.extend(bytes(&[0x81, 0x01, 0x04, 0x75, 0x03, 0xff]));
+    calls.extend(bytes(&[0x81, 0x01, 0x04, 0x22, 1, 2, 3, 4, 0xff]));
+    for _ in 0..PACKETS {
+        calls.extend(bytes(packet));
+    }
+    calls
+}
+
+pub fn rows(rounds: usize) {
+    println!(
+        "{:<34} {:>9} {:>9} {:>7}",
+        "nanoseconds a packet", "plain", "proved", "ratio"
+    );
+    for (name, packet) in ROWS {
+        let taken = both(Kind::Dome, &packets(packet), rounds);
+        let name = format!("{name} ({} bytes)", packet.len());
+        row(&name, taken.map(|ns| ns / PACKETS as f64));
+    }
+}
