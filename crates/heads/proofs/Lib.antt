@@ -5,3 +5,4 @@ pub mod Moves
 pub mod Lawful
 pub mod Rigs
 pub mod Punctual
+mod Given

@@ -6,14 +6,14 @@ use Rattle.head.specs.declared.outcome.Ending.TheVariants.{Done, Jammed}
 use Rattle.head.specs.declared.setting.Axis.{Axis}
 use Rattle.head.specs.declared.setting.Axis.TheVariants.{Zoom, Focus, Pan, Tilt}
 use Rattle.head.specs.declared.setting.Setting.{Setting}
-use Rattle.head.specs.Settings.{position}
+use Rattle.head.specs.Settings.{about, position}
 use Rattle.head.specs.Orders.{parts, wants}
 use Rattle.head.specs.Meaning.{Slot, idle, busy, Slots, Meaning}
 use Rattle.head.specs.Values.{value_of}
 use Rattle.heads.specs.declared.motion.Motion.{Motion}
 use Rattle.heads.specs.declared.rig.Rig.{Rig}
 use Rattle.heads.specs.Motion.{moved}
-use Rattle.heads.specs.Exact.{slot_of, is_at}
+use Rattle.heads.specs.Exact.{slot_of, is_at, is_done, or_else}
 
 abbrev pub slots_of : Rig → Slots
 slots_of r = record { one = slot_of r.one; two = slot_of r.two }
@@ -36,3 +36,13 @@ all_arrive m o f = arrives m o f Zoom && arrives m o f Focus && arrives m o f Pa
 abbrev pub foretold : Motion → Slot → (Setting → ℤ) → Option Ending
 foretold m idle f = None
 foretold m (busy o n) f = cond (nat_lt 1 n) None (Some (cond (all_arrive m o f) Done Jammed))
+
+-- a setting with its target, if it has one, at its place; a position moves, and is nowhere put
+abbrev pub given : Option Axis → Option ℤ → ℤ → ℤ
+given (Some a) w v = v
+given None w v = or_else w v
+
+-- a setting from v, where a slot's order that is done gives settings their targets
+abbrev pub closed : Slot → Option Ending → Setting → ℤ → ℤ
+closed idle e s v = v
+closed (busy o n) e s v = cond (is_done e) (given (about s).axis (wants (parts o.targets) s) v) v

@@ -49,8 +49,8 @@ impl Rig {
     }
 
     // Whether this tick takes the axis to its target, if the order names its position.
-    fn arrives(&self, order: Order, axis: Axis) -> bool
-        ensures { result ≡ arrives_by self.now.motion order (value_of self.now.settings) axis }
+    fn arrives(&self, order: &Order, axis: Axis) -> bool
+        ensures { result ≡ arrives_by self.now.motion order.now (value_of self.now.settings) axis }
     {
         order
             .target(axis.position())
@@ -58,8 +58,8 @@ impl Rig {
     }
 
     /// Whether this tick takes every position that the order names to its target.
-    pub(crate) fn all_arrive(&self, order: Order) -> bool
-        ensures { result ≡ all_arrive_by self.now.motion order (value_of self.now.settings) }
+    pub(crate) fn all_arrive(&self, order: &Order) -> bool
+        ensures { result ≡ all_arrive_by self.now.motion order.now (value_of self.now.settings) }
     {
         Axis::ALL.iter().all(|axis| self.arrives(order, *axis))
     }

@@ -1,42 +1,59 @@
 //! A tick of our heads: how each order ends, and where each setting goes.
 
-ghost use Rattle.std.specs.Prelude.{◌≡◌, Bool};
+ghost use Rattle.std.specs.Prelude.{◌≡◌, Bool, true, if◌then◌else◌};
 ghost use Rattle.head.specs.declared.setting.Setting.{Setting as S};
-ghost use Rattle.head.specs.Settings.{about};
-ghost use Rattle.head.specs.Meaning.{busy, rest};
+ghost use Rattle.head.specs.Meaning.{rest};
+ghost use Rattle.head.specs.Orders.{parts, wants, all_in_range};
+ghost use Rattle.head.specs.Settings.{about, position, same};
 ghost use Rattle.head.specs.Values.{value_of};
 ghost use Rattle.heads.specs.Exact.{slot_of, pulled as pulled_by, unnamed as unnamed_by, next as next_by, Ran};
-ghost use Rattle.heads.specs.Rigs.{means, slots_of, foretold};
+ghost use Rattle.heads.specs.Rigs.{means, slots_of, foretold, given, closed};
 
 use crate::job::Job;
 use crate::rig::Rig;
-use head::{Ending, Endings, Setting, Settings};
+use head::{Axis, Ending, Endings, Setting, Settings, Target};
 
-impl Job {
-    // What a tick leaves of it: one tick fewer, and nothing after the last.
-    fn after_tick(self) -> Option<Job>
-        ensures { slot_of result ≡ rest (busy self.order self.left) }
-    {
-        if self.left > 1 {
-            Some(Job {
-                order: self.order,
-                left: self.left - 1,
-            })
-        } else {
-            None
+// Gives settings their targets, but for positions, which move.
+fn give(settings: &mut Settings, targets: &[Target])
+    requires { all_in_range targets.now ≡ true }
+    ensures { (s : S) → value_of settings.new s ≡ given (about s).axis (wants targets.now s) (value_of settings.old s) }
+{
+    if let [first, rest @ ..] = targets {
+        give(settings, rest);
+        if first.setting.axis().is_none() {
+            let _ = settings.set(first.setting, first.value);
         }
+    }
+}
+
+// Gives settings the targets of an order that is done.
+fn close(settings: &mut Settings, job: &Option<Job>, ending: Option<Ending>)
+    ensures { (s : S) → value_of settings.new s ≡ closed (slot_of job.now) ending s (value_of settings.old s) }
+{
+    if let (Some(job), Some(Ending::Done)) = (job, ending) {
+        give(settings, job.order.targets.as_slice());
+    }
+}
+
+// One tick fewer, and idle after the last.
+fn count_down(slot: &mut Option<Job>)
+    ensures { slot_of slot.new ≡ rest (slot_of slot.old) }
+{
+    match slot {
+        Some(job) if job.left > 1 => job.left -= 1,
+        _ => *slot = None,
     }
 }
 
 impl Rig {
     // How a slot's order ends at this tick, if it does.
-    fn ending(&self, job: Option<Job>) -> Option<Ending>
-        ensures { result ≡ foretold self.now.motion (slot_of job) (value_of self.now.settings) }
+    fn ending(&self, job: &Option<Job>) -> Option<Ending>
+        ensures { result ≡ foretold self.now.motion (slot_of job.now) (value_of self.now.settings) }
     {
-        let job = job?;
+        let job = job.as_ref()?;
         if job.left > 1 {
             None
-        } else if self.all_arrive(job.order) {
+        } else if self.all_arrive(&job.order) {
             Some(Ending::Done)
         } else {
             Some(Ending::Jammed)
@@ -45,10 +62,10 @@ impl Rig {
 
     // Where a slot's order takes a setting, if it names it: a position moves, another gets its
     // target once the order is done.
-    fn pulled(&self, job: Option<Job>, ending: Option<Ending>, setting: Setting) -> Option<i32>
-        ensures { result ≡ pulled_by self.now.motion (slot_of job) ending setting (value_of self.now.settings setting) }
+    fn pulled(&self, job: &Option<Job>, ending: Option<Ending>, setting: Setting) -> Option<i32>
+        ensures { result ≡ pulled_by self.now.motion (slot_of job.now) ending setting (value_of self.now.settings setting) }
     {
-        let order = job?.order;
+        let order = &job.as_ref()?.order;
         let target = order.target(setting)?;
         Some(match setting.axis() {
             Some(axis) => self.moved(order.paces, axis, target),
@@ -70,9 +87,18 @@ impl Rig {
     fn next(&self, endings: Endings, setting: Setting) -> i32
         ensures { result ≡ next_by self.now.motion (slots_of self.now) endings (value_of self.now.settings) setting }
     {
-        self.pulled(self.one, endings.one, setting)
-            .or_else(|| self.pulled(self.two, endings.two, setting))
+        self.pulled(&self.one, endings.one, setting)
+            .or_else(|| self.pulled(&self.two, endings.two, setting))
             .unwrap_or_else(|| self.unnamed(setting))
+    }
+
+    // Moves the position of an axis.
+    fn follow(&self, settings: &mut Settings, endings: Endings, axis: Axis)
+        ensures { (s : S) → value_of settings.new s ≡ (if same s (position axis) then next_by self.now.motion (slots_of self.now) endings (value_of self.now.settings) s else value_of settings.old s) }
+    {
+        let setting = axis.position();
+        // It is never out of range, so nothing is lost.
+        let _ = settings.set(setting, self.next(endings, setting));
     }
 
     // All settings after this tick.
@@ -80,11 +106,12 @@ impl Rig {
         ensures { (s : S) → value_of result s ≡ next_by self.now.motion (slots_of self.now) endings (value_of self.now.settings) s }
     {
         let mut settings = self.settings;
-        for setting in Setting::ALL {
-            // It is never out of range, so nothing is lost. A map over the settings would have to make a
-            // second array, and show of it again that all are in range.
-            let _ = settings.set(setting, self.next(endings, setting));
-        }
+        self.follow(&mut settings, endings, Axis::Zoom);
+        self.follow(&mut settings, endings, Axis::Focus);
+        self.follow(&mut settings, endings, Axis::Pan);
+        self.follow(&mut settings, endings, Axis::Tilt);
+        close(&mut settings, &self.one, endings.one);
+        close(&mut settings, &self.two, endings.two);
         settings
     }
 
@@ -93,12 +120,12 @@ impl Rig {
         ensures ran { (p : Bool) → Ran self.old.motion (means p self.old) result (means p self.new) }
         ensures motion { self.new.motion ≡ self.old.motion }
     {
-        let one = self.ending(self.one);
-        let two = self.ending(self.two);
+        let one = self.ending(&self.one);
+        let two = self.ending(&self.two);
         let endings = Endings { one, two };
         self.settings = self.advanced(endings);
-        self.one = self.one.and_then(Job::after_tick);
-        self.two = self.two.and_then(Job::after_tick);
+        count_down(&mut self.one);
+        count_down(&mut self.two);
         endings
     }
 }

@@ -1,23 +1,20 @@
-use Rattle.std.proofs.Common.{is_ok, ◌≡◌, true, get_or, ℤ, sym, ◌∙◌, subst, w32, SFits, to_z, of_z, rules}
-use Rattle.std.proofs.lemmas.Int.{to_z-of_z}
-use Rattle.head.specs.declared.setting.Setting.TheVariants.{Power}
-use Rattle.head.specs.Settings.{all, in_range}
+use Rattle.std.proofs.Common.{◌∙◌, ap, cond}
+use Rattle.head.specs.declared.setting.Axis.TheVariants.{Focus, Pan, Tilt}
+use Rattle.head.specs.Settings.{same, position}
 use Rattle.head.specs.Values.{value_of}
-use Rattle.head.proofs.Tables.{number_at, passed_more}
-use Rattle.heads.specs.Exact.{next}
-use Rattle.heads.specs.Rigs.{slots_of}
-use Rattle.heads.proofs.Moves.{next_in_range}
+use Rattle.heads.specs.Exact.{slot_of, next}
+use Rattle.heads.specs.Rigs.{slots_of, closed}
+use Rattle.heads.proofs.Given.{advanced_is}
 use Rattle.heads.proofs.rig.Rig.advanced.Goals as goal
 
-pub loop-setting-preserved : goal.loop-setting-preserved
-loop-setting-preserved c =
+pub returns : goal.returns
+returns c s =
     let rig = c.args.self.now in
-    let k = c.loop-setting.setting-index in
-    let x = get_or all k Power in
-    let f : SFits w32 c.next.result = search rules in
-    let v : to_z w32 (of_z w32 c.next.result) ≡ next rig.motion (slots_of rig) c.args.endings (value_of rig.settings) x = to_z-of_z w32 c.next.result f ∙ c.next.ensures in
-    let t = c.set.ensures.taken
-    ∙ subst (λ (w : ℤ). in_range x w ≡ true) (sym v) (next_in_range rig.motion rig.one rig.two c.args.endings (value_of rig.settings) x (rig.settings.ranged x)) in
-    passed_more k x (is_ok c.set.result) (to_z w32 (of_z w32 c.next.result)) (value_of c.loop-setting.settings) (value_of c.set.new.self)
-    (next rig.motion (slots_of rig) c.args.endings (value_of rig.settings))
-    (number_at k c.loop-setting-test.true) t v c.set.ensures.values c.loop-setting.invariant
+    let e = c.args.endings in
+    let f = value_of rig.settings in
+    let g = next rig.motion (slots_of rig) e f s in
+    let one = slot_of rig.one in
+    let two = slot_of rig.two in
+    c.close-2.ensures s
+    ∙ ap (closed two e.two s) (c.close.ensures s ∙ ap (closed one e.one s) (c.follow-4.ensures s ∙ ap (cond (same s (position Tilt)) g) (c.follow-3.ensures s ∙ ap (cond (same s (position Pan)) g) (c.follow-2.ensures s ∙ ap (cond (same s (position Focus)) g) (c.follow.ensures s)))))
+    ∙ advanced_is rig.motion one two e f s rig.apart

@@ -8,5 +8,5 @@ use Rattle.heads.proofs.rig.Rig.all_arrive.Goals as goal
 
 pub returns : goal.returns
 returns c =
-    let t = arrives c.args.self.now.motion c.args.order (value_of c.args.self.now.settings) in
+    let t = arrives c.args.self.now.motion c.args.order.now (value_of c.args.self.now.settings) in
     all_from_yields_List t _ _ c.all.result c.all.ensures.ran (YieldsList-from_slice axes cc) (λ x b q k. search rules) ∙ all_four t
