@@ -1,6 +1,6 @@
 //! The calls on an end: make, byte, tick, open, take off.
 
-ghost use Rattle.std.specs.Prelude.{◌≡◌, ◌<◌, ◌≤◌, [], length, take, drop, OnOk, IfErr};
+ghost use Rattle.std.specs.Prelude.{◌≡◌, ◌<◌, ◌≤◌, [], ◌++◌, length, take, drop, OnOk, IfErr};
 ghost use Rattle.end.specs.Deeds.{Cleared, settled as settled_by};
 ghost use Rattle.end.specs.Faults.{answered, count, opens, refused};
 ghost use Rattle.end.specs.Law.{Keeps};
@@ -16,7 +16,7 @@ use crate::end::End;
 use crate::fault::{Cause, Fault};
 use crate::sending::{ROOM, both, put};
 use crate::socket::{OpenSockets, Sockets, Which};
-use head::{Ending, Head, Look, Order};
+use head::{Ending, Endings, Head, Look, Order};
 use rules::{Problem, Reply};
 use wire::{Bytes, Framer, Packet};
 
@@ -43,11 +43,13 @@ fn idled<H: Head>(mut head: H) -> H
     head
 }
 
-// A socket after a tick that told this of its order.
-fn settled(ending: Option<Ending>, socket: Option<Order>) -> Option<Order>
-    ensures { result ≡ settled_by ending socket }
+// Closes a socket whose order ended.
+fn settle(socket: &mut Option<Order>, ending: Option<Ending>)
+    ensures { socket.new ≡ settled_by ending socket.old }
 {
-    if ending.is_some() { None } else { socket }
+    if ending.is_some() {
+        *socket = None;
+    }
 }
 
 // What a socket tells of its ending, if it ended.
@@ -63,6 +65,21 @@ fn ended(header: u8, which: Which, ending: Option<Ending>) -> Bytes
     }
 }
 
+// Sends what the sockets tell of their endings, socket 1 first.
+fn tell(header: u8, endings: Endings, out: &mut [u8]) -> usize
+    requires { 16 ≤ length out.old }
+    ensures count { result ≡ length (ended_by header 1 endings.one ++ ended_by header 2 endings.two) }
+    ensures front { take result out.new ≡ ended_by header 1 endings.one ++ ended_by header 2 endings.two }
+    ensures untouched { drop result out.new ≡ drop result out.old }
+{
+    if endings.one.is_none() && endings.two.is_none() {
+        return 0;
+    }
+    let one = ended(header, Which::One, endings.one);
+    let two = ended(header, Which::Two, endings.two);
+    put(both(one, two), out)
+}
+
 impl<H: Head> End<H> {
     /// An end over a head, whose slots are dropped: no address, no packet begun, both sockets closed.
     pub fn make(head: H) -> End<H>
@@ -76,7 +93,9 @@ impl<H: Head> End<H> {
         }
     }
 
-    // A whole packet, and what it sends put into the caller's buffer.
+    // A whole packet, and what it sends put into the caller's buffer. Most bytes make none whole, so that this
+    // is kept apart from what every byte does.
+    #[inline(never)]
     fn take_packet(&mut self, packet: &Packet, out: &mut [u8]) -> Result<usize, Fault>
         requires { 16 ≤ length out.old }
         ensures came { Came (state self.old) (state self.old).held (met_by self.old.address (state self.old).head self.old.sockets (bytes_of packet.now) (rule_of self.old.address (bytes_of packet.now))) (answered result) (take (count result) out.new) (state self.new) }
@@ -94,6 +113,7 @@ impl<H: Head> End<H> {
 
     // A byte, given a buffer. The clause `law` of `byte` follows from the others alone, which are said here
     // of the code; so it is for a tick.
+    #[inline]
     fn take_byte(&mut self, byte: u8, out: &mut [u8]) -> Result<usize, Fault>
         ensures step { Step (state self.old) (Call.Byte byte) (length out.old) (answered result) (take (count result) out.new) (state self.new) }
         ensures untouched { drop (count result) out.new ≡ drop (count result) out.old }
@@ -112,19 +132,14 @@ impl<H: Head> End<H> {
     {
         room(out)?;
         let endings = self.head.tick();
-        let sockets = self.sockets;
-        self.sockets = Sockets {
-            one: settled(endings.one, sockets.one),
-            two: settled(endings.two, sockets.two),
-        };
-        let header = self.own_header();
-        let one = ended(header, Which::One, endings.one);
-        let two = ended(header, Which::Two, endings.two);
-        Ok(put(both(one, two), out))
+        settle(&mut self.sockets.one, endings.one);
+        settle(&mut self.sockets.two, endings.two);
+        Ok(tell(self.own_header(), endings, out))
     }
 
     /// Takes one byte from the line. What it sends stands at the front of the buffer; the answer is
     /// the count, or a fault with the count sent.
+    #[inline]
     pub fn byte(&mut self, byte: u8, out: &mut [u8]) -> Result<usize, Fault>
         ensures step { Step (state self.old) (Call.Byte byte) (length out.old) (answered result) (take (count result) out.new) (state self.new) }
         ensures untouched { drop (count result) out.new ≡ drop (count result) out.old }

@@ -9,24 +9,19 @@ ghost use Rattle.rows.specs.Admitted.{covers, admits};
 use crate::fault::RowFault;
 use crate::row::{Body, Row};
 
-// What a row makes of a body, if it admits it.
-fn admitted<R: Row>(row: &R, body: Body<'_>) -> Option<R::Meaning>
-    ensures { result ≡ admits R.Row body.entry row.now }
-{
-    if row.covers(body) {
-        row.read(body)
-    } else {
-        None
-    }
-}
-
 // The first row that admits a body, by its place, with what it makes of it.
 fn first<R: Row>(rows: &[R], body: Body<'_>) -> Option<(usize, R::Meaning)>
     ensures { result ≡ first_of (admits R.Row body.entry) rows.now }
 {
-    rows.iter()
-        .enumerate()
-        .find_map(|(i, row)| admitted(row, body).map(|meaning| (i, meaning)))
+    // A loop: nothing is made for a row that has another category or code, not even an empty answer.
+    for (i, row) in rows.iter().enumerate() {
+        if row.covers(body) {
+            if let Some(meaning) = row.read(body) {
+                return Some((i, meaning));
+            }
+        }
+    }
+    None
 }
 
 // Whether some row has a body's category and code.

@@ -17,6 +17,7 @@ impl Framer {
 
     /// Takes one byte: it may make a packet whole, or be at fault.
     #[tactic(auto, using(crate::proofs::Forms::begun_more, crate::proofs::Forms::begun_whole))]
+    #[inline]
     pub fn feed(&mut self, byte: u8) -> Result<Option<Packet>, FramingFault>
         ensures state { self.new ≡ next self.old byte }
         ensures event { told result ≡ event self.old byte }
