@@ -1,7 +1,6 @@
 //! Calls made with little around them, for a clock outside.
 
-use crate::asked::Asked;
-use end::{Call, End, bytes_sent};
+use end::{End, bytes_sent};
 use head::Head;
 use heads::{Block, Dome};
 
@@ -10,10 +9,11 @@ fn play<H: Head + Drop>(head: H, calls: &[u16]) -> u64 {
     let mut buffer = [0; 16];
     let mut sum: u64 = 0;
     for number in calls {
-        let count = match Asked::from(*number).call {
-            Call::Byte(byte) => bytes_sent(end.byte(byte, &mut buffer)),
-            Call::Tick => bytes_sent(end.tick(&mut buffer)),
-            Call::Open => usize::from(end.open().one),
+        // The numbers of `Asked`, read here since a clock sees every step.
+        let count = match *number % 512 {
+            byte @ 0..=255 => bytes_sent(end.byte(byte as u8, &mut buffer)),
+            256 => bytes_sent(end.tick(&mut buffer)),
+            _ => usize::from(end.open().one),
         };
         sum = sum
             .wrapping_mul(31)

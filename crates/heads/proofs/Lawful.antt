@@ -45,7 +45,7 @@ held_driven Pan v d h = held_follows (negsuc 5119) (pos 5120) v d (pos 16 *ℤ d
 held_driven Tilt v d h = held_follows (negsuc 1279) (pos 1280) v d (pos 16 *ℤ d) h (λ p. omega (arith, ints)) (λ p. omega (arith, ints)) (λ p. omega (arith, ints))
 
 -- a drive moves a position as its sign says
-driven_lawful : (m : Motion) (a : Axis) (v d : ℤ) → in_range (position a) v ≡ true → Driven d v (driven m a v d)
+pub driven_lawful : (m : Motion) (a : Axis) (v d : ℤ) → in_range (position a) v ≡ true → Driven d v (driven m a v d)
 driven_lawful AtOnce a v d h = held_driven a v d h
 driven_lawful Stepwise a v d h = held_driven a v d h
 driven_lawful Stalled a v d h = record { rises = λ p. omega (arith, ints); falls = λ p. omega (arith, ints); stands = λ p. refl }

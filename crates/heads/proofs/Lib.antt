@@ -6,3 +6,4 @@ pub mod Lawful
 pub mod Rigs
 pub mod Punctual
 mod Given
+mod Idle

@@ -54,7 +54,7 @@ held_in_range Pan w = held_in_span (negsuc 5119) (pos 5120) w (omega (arith, int
 held_in_range Tilt w = held_in_span (negsuc 1279) (pos 1280) w (omega (arith, ints))
 
 -- a drive holds a position to its range
-driven_in_range : (m : Motion) (a : Axis) (v d : ℤ) → in_range (position a) v ≡ true → in_range (position a) (driven m a v d) ≡ true
+pub driven_in_range : (m : Motion) (a : Axis) (v d : ℤ) → in_range (position a) v ≡ true → in_range (position a) (driven m a v d) ≡ true
 driven_in_range AtOnce a v d h = held_in_range a (v +ℤ pos (unit a) *ℤ d)
 driven_in_range Stepwise a v d h = held_in_range a (v +ℤ pos (unit a) *ℤ d)
 driven_in_range Stalled a v d h = h

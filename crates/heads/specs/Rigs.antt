@@ -6,13 +6,13 @@ use Rattle.head.specs.declared.outcome.Ending.TheVariants.{Done, Jammed}
 use Rattle.head.specs.declared.setting.Axis.{Axis}
 use Rattle.head.specs.declared.setting.Axis.TheVariants.{Zoom, Focus, Pan, Tilt}
 use Rattle.head.specs.declared.setting.Setting.{Setting}
-use Rattle.head.specs.Settings.{about, position}
+use Rattle.head.specs.Settings.{about, same, position, drive}
 use Rattle.head.specs.Orders.{parts, wants}
 use Rattle.head.specs.Meaning.{Slot, idle, busy, Slots, Meaning}
 use Rattle.head.specs.Values.{value_of}
 use Rattle.heads.specs.declared.motion.Motion.{Motion}
 use Rattle.heads.specs.declared.rig.Rig.{Rig}
-use Rattle.heads.specs.Motion.{moved}
+use Rattle.heads.specs.Motion.{moved, driven}
 use Rattle.heads.specs.Exact.{slot_of, is_at, is_done, or_else}
 
 abbrev pub slots_of : Rig → Slots
@@ -46,3 +46,7 @@ given None w v = or_else w v
 abbrev pub closed : Slot → Option Ending → Setting → ℤ → ℤ
 closed idle e s v = v
 closed (busy o n) e s v = cond (is_done e) (given (about s).axis (wants (parts o.targets) s) v) v
+
+-- settings that have the values f, where the drive of an axis moves its position
+abbrev pub drifted : Motion → Axis → (Setting → ℤ) → Setting → ℤ
+drifted m a f s = cond (same s (position a)) (driven m a (f (position a)) (f (drive a))) (f s)

@@ -65,7 +65,7 @@ impl Rig {
         ensures motion { self.new.motion ≡ self.old.motion }
     {
         self.admit(pan_tilt, slot, order)?;
-        let left = self.ticks(order) as u16;
+        let left = self.ticks(&order) as u16;
         let job = Some(Job { order, left });
         if slot == 1 {
             self.one = job;

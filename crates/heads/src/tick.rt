@@ -7,7 +7,7 @@ ghost use Rattle.head.specs.Orders.{parts, wants, all_in_range};
 ghost use Rattle.head.specs.Settings.{about, position, same};
 ghost use Rattle.head.specs.Values.{value_of};
 ghost use Rattle.heads.specs.Exact.{slot_of, pulled as pulled_by, unnamed as unnamed_by, next as next_by, Ran};
-ghost use Rattle.heads.specs.Rigs.{means, slots_of, foretold, given, closed};
+ghost use Rattle.heads.specs.Rigs.{means, slots_of, foretold, given, closed, drifted};
 
 use crate::job::Job;
 use crate::rig::Rig;
@@ -40,8 +40,9 @@ fn count_down(slot: &mut Option<Job>)
     ensures { slot_of slot.new ≡ rest (slot_of slot.old) }
 {
     match slot {
+        None => {}
         Some(job) if job.left > 1 => job.left -= 1,
-        _ => *slot = None,
+        Some(_) => *slot = None,
     }
 }
 
@@ -115,8 +116,9 @@ impl Rig {
         settings
     }
 
-    /// One tick: both orders go on, those with their last tick end, and settings follow.
-    pub(crate) fn tick(&mut self) -> Endings
+    // A tick with an order at work in a slot, or in both.
+    #[inline(never)]
+    fn work(&mut self) -> Endings
         ensures ran { (p : Bool) → Ran self.old.motion (means p self.old) result (means p self.new) }
         ensures motion { self.new.motion ≡ self.old.motion }
     {
@@ -127,5 +129,35 @@ impl Rig {
         count_down(&mut self.one);
         count_down(&mut self.two);
         endings
+    }
+
+    // Moves the position of an axis by its drive, which most often is 0.
+    fn drift(&mut self, axis: Axis)
+        ensures values { (s : S) → value_of self.new.settings s ≡ drifted self.old.motion axis (value_of self.old.settings) s }
+        ensures rest { (self.new.motion ≡ self.old.motion) × (self.new.one ≡ self.old.one) × (self.new.two ≡ self.old.two) }
+    {
+        if self.settings.get(axis.drive()) != 0 {
+            let to = self.driven(axis);
+            // It is never out of range, so nothing is lost.
+            let _ = self.settings.set(axis.position(), to);
+        }
+    }
+
+    /// One tick: both orders go on, those with their last tick end, and settings follow.
+    pub(crate) fn tick(&mut self) -> Endings
+        ensures ran { (p : Bool) → Ran self.old.motion (means p self.old) result (means p self.new) }
+        ensures motion { self.new.motion ≡ self.old.motion }
+    {
+        if self.one.is_some() || self.two.is_some() {
+            return self.work();
+        }
+        self.drift(Axis::Zoom);
+        self.drift(Axis::Focus);
+        self.drift(Axis::Pan);
+        self.drift(Axis::Tilt);
+        Endings {
+            one: None,
+            two: None,
+        }
     }
 }

@@ -20,8 +20,8 @@ impl Rig {
     }
 
     // The ticks that the order takes on one axis, 0 if it does not name its position.
-    fn ticks_on(&self, order: Order, axis: Axis) -> u32
-        ensures { result ≡ ticks_on_axis (value_of self.now.settings) order axis }
+    fn ticks_on(&self, order: &Order, axis: Axis) -> u32
+        ensures { result ≡ ticks_on_axis (value_of self.now.settings) order.now axis }
     {
         order
             .target(axis.position())
@@ -29,8 +29,8 @@ impl Rig {
     }
 
     /// The ticks that an order takes from where the settings stand.
-    pub(crate) fn ticks(&self, order: Order) -> u32
-        ensures is { result ≡ ticks_of self.now.motion (value_of self.now.settings) order }
+    pub(crate) fn ticks(&self, order: &Order) -> u32
+        ensures is { result ≡ ticks_of self.now.motion (value_of self.now.settings) order.now }
         ensures some { 1 ≤ result }
     {
         match self.motion {

@@ -14,7 +14,7 @@ pub returns-in-Stepwise : goal.returns-in-Stepwise
 returns-in-Stepwise c =
     let rig = c.args.self.now in
     let f = value_of rig.settings in
-    let o = c.args.order in
+    let o = c.args.order.now in
     let e : c.fold.result ≡ longest f o =
     fold_from_yields_List _ (λ m a. max m (ticks_on f o a)) _ c.fold.result c.fold.ensures.ran (YieldsList-from_slice axes cc) (λ m x b q k. search rules)
     ∙ most (ticks_on f o Zoom) (ticks_on f o Focus) (ticks_on f o Pan) (ticks_on f o Tilt) in

@@ -1,0 +1,22 @@
+use Rattle.std.proofs.Common.{refl, ◌∙◌}
+use Rattle.head.specs.declared.outcome.Endings.{Endings}
+use Rattle.head.specs.Meaning.{Meaning, rest}
+use Rattle.head.specs.Values.{value_of}
+use Rattle.heads.specs.Rigs.{means}
+use Rattle.heads.proofs.Lawful.{moved_one, moved_two, foretold_is}
+use Rattle.heads.proofs.rig.Rig.work.Goals as goal
+
+pub returns-clause-ran : goal.returns-clause-ran
+returns-clause-ran c p =
+    let r = c.args.self.now in
+    let e : Endings = record { one = c.ending-one.result; two = c.ending-two.result } in
+    let m = means p r in
+    let m' : Meaning = record { setting = value_of c.advanced-self.result; pantilt = p; slots = m.slots } in
+    record {
+      pantilt = refl;
+      one = c.count_down.ensures;
+      two = c.count_down-2.ensures;
+      told_one = c.ending-one.ensures ∙ foretold_is r.motion m.slots.one m.setting m'.setting (moved_one r.motion m m' e r.apart c.advanced-self.ensures);
+      told_two = c.ending-two.ensures ∙ foretold_is r.motion m.slots.two m.setting m'.setting (moved_two r.motion m m' e r.apart c.advanced-self.ensures);
+      setting = c.advanced-self.ensures;
+    }
