@@ -72,12 +72,17 @@ fn tell(header: u8, endings: Endings, out: &mut [u8]) -> usize
     ensures front { take result out.new ≡ ended_by header 1 endings.one ++ ended_by header 2 endings.two }
     ensures untouched { drop result out.new ≡ drop result out.old }
 {
-    if endings.one.is_none() && endings.two.is_none() {
-        return 0;
+    // Most ticks end nothing, and of others most end one order.
+    match (endings.one, endings.two) {
+        (None, None) => 0,
+        (one, None) => put(ended(header, Which::One, one), out),
+        (None, two) => put(ended(header, Which::Two, two), out),
+        (one, two) => {
+            let first = ended(header, Which::One, one);
+            let second = ended(header, Which::Two, two);
+            put(both(first, second), out)
+        }
     }
-    let one = ended(header, Which::One, endings.one);
-    let two = ended(header, Which::Two, endings.two);
-    put(both(one, two), out)
 }
 
 impl<H: Head> End<H> {

@@ -24,7 +24,7 @@ impl<H: Head> End<H> {
         ensures { Worked (cancels (number which)) (state self.old) (state self.new) }
     {
         self.head.drop_slot(which.number());
-        self.sockets = self.sockets.with(which, None);
+        self.sockets.set(which, None);
     }
 
     /// Gives a slot an order and opens its socket.
@@ -34,7 +34,7 @@ impl<H: Head> End<H> {
         // The head never turns it down: rows admit only targets in range, the slot of a closed socket
         // is idle, and an order that shares a setting was dropped before.
         let _ = self.head.start(which.number(), order);
-        self.sockets = self.sockets.with(which, Some(order));
+        self.sockets.set(which, Some(order));
     }
 
     /// Drops the other slot's order, then gives a slot its order.

@@ -84,14 +84,13 @@ impl Sockets {
         }
     }
 
-    /// With another content of this socket.
-    pub(crate) fn with(self, which: Which, socket: Option<Order>) -> Sockets
-        ensures { result ≡ with_socket self (number_of which) socket }
+    /// Gives this socket another content.
+    pub(crate) fn set(&mut self, which: Which, socket: Option<Order>)
+        ensures { self.new ≡ with_socket self.old (number_of which) socket }
     {
-        let Sockets { one, two } = self;
         match which {
-            Which::One => Sockets { one: socket, two },
-            Which::Two => Sockets { one, two: socket },
+            Which::One => self.one = socket,
+            Which::Two => self.two = socket,
         }
     }
 

@@ -2,6 +2,7 @@
 use Rattle.std.specs.Prelude.{Bool, true, cond, ◌&&◌, ℤ, Some, None, Option, nat_lt}
 use Rattle.head.specs.declared.order.Order.{Order}
 use Rattle.head.specs.declared.outcome.Ending.{Ending}
+use Rattle.head.specs.declared.outcome.Endings.{Endings}
 use Rattle.head.specs.declared.outcome.Ending.TheVariants.{Done, Jammed}
 use Rattle.head.specs.declared.setting.Axis.{Axis}
 use Rattle.head.specs.declared.setting.Axis.TheVariants.{Zoom, Focus, Pan, Tilt}
@@ -13,7 +14,7 @@ use Rattle.head.specs.Values.{value_of}
 use Rattle.heads.specs.declared.motion.Motion.{Motion}
 use Rattle.heads.specs.declared.rig.Rig.{Rig}
 use Rattle.heads.specs.Motion.{moved, driven}
-use Rattle.heads.specs.Exact.{slot_of, is_at, is_done, or_else}
+use Rattle.heads.specs.Exact.{slot_of, is_at, is_done, or_else, pulled, next}
 
 abbrev pub slots_of : Rig → Slots
 slots_of r = record { one = slot_of r.one; two = slot_of r.two }
@@ -50,3 +51,15 @@ closed (busy o n) e s v = cond (is_done e) (given (about s).axis (wants (parts o
 -- settings that have the values f, where the drive of an axis moves its position
 abbrev pub drifted : Motion → Axis → (Setting → ℤ) → Setting → ℤ
 drifted m a f s = cond (same s (position a)) (driven m a (f (position a)) (f (drive a))) (f s)
+
+abbrev pub or : Option ℤ → Option ℤ → Option ℤ
+or None y = y
+or (Some t) y = Some t
+
+-- where an order takes a setting from v, if one names it
+abbrev pub ordered : Motion → Slots → Endings → ℤ → Setting → Option ℤ
+ordered m b e v s = or (pulled m b.one e.one s v) (pulled m b.two e.two s v)
+
+-- settings that have the values f, where the position of an axis goes as an order has it, or as its drive
+abbrev pub followed : Motion → Slots → Endings → Axis → (Setting → ℤ) → Setting → ℤ
+followed m b e a f s = cond (same s (position a)) (next m b e f (position a)) (f s)

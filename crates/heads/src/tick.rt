@@ -6,8 +6,8 @@ ghost use Rattle.head.specs.Meaning.{rest};
 ghost use Rattle.head.specs.Orders.{parts, wants, all_in_range};
 ghost use Rattle.head.specs.Settings.{about, position, same};
 ghost use Rattle.head.specs.Values.{value_of};
-ghost use Rattle.heads.specs.Exact.{slot_of, pulled as pulled_by, unnamed as unnamed_by, next as next_by, Ran};
-ghost use Rattle.heads.specs.Rigs.{means, slots_of, foretold, given, closed, drifted};
+ghost use Rattle.heads.specs.Exact.{slot_of, pulled as pulled_by, next as next_by, Ran};
+ghost use Rattle.heads.specs.Rigs.{means, slots_of, foretold, given, closed, drifted, ordered as ordered_by, followed as followed_by};
 
 use crate::job::Job;
 use crate::rig::Rig;
@@ -48,6 +48,7 @@ fn count_down(slot: &mut Option<Job>)
 
 impl Rig {
     // How a slot's order ends at this tick, if it does.
+    #[inline]
     fn ending(&self, job: &Option<Job>) -> Option<Ending>
         ensures { result ≡ foretold self.now.motion (slot_of job.now) (value_of self.now.settings) }
     {
@@ -75,45 +76,52 @@ impl Rig {
         })
     }
 
-    // Where a setting goes that no order names: a position as its drive says.
-    fn unnamed(&self, setting: Setting) -> i32
-        ensures { result ≡ unnamed_by self.now.motion (about setting).axis (value_of self.now.settings) setting }
+    // Moves the position of an axis by its drive, which most often is 0.
+    fn drift(&mut self, axis: Axis)
+        ensures values { (s : S) → value_of self.new.settings s ≡ drifted self.old.motion axis (value_of self.old.settings) s }
+        ensures rest { (self.new.motion ≡ self.old.motion) × (self.new.one ≡ self.old.one) × (self.new.two ≡ self.old.two) }
     {
-        setting
-            .axis()
-            .map_or(self.settings.get(setting), |axis| self.driven(axis))
+        if self.settings.get(axis.drive()) != 0 {
+            let to = self.driven(axis);
+            // It is never out of range, so nothing is lost.
+            let _ = self.settings.set(axis.position(), to);
+        }
     }
 
-    // The value of a setting after this tick.
-    fn next(&self, endings: Endings, setting: Setting) -> i32
-        ensures { result ≡ next_by self.now.motion (slots_of self.now) endings (value_of self.now.settings) setting }
+    // Where an order takes a setting, if one names it.
+    fn ordered(&self, endings: Endings, setting: Setting) -> Option<i32>
+        ensures { result ≡ ordered_by self.now.motion (slots_of self.now) endings (value_of self.now.settings setting) setting }
     {
         self.pulled(&self.one, endings.one, setting)
             .or_else(|| self.pulled(&self.two, endings.two, setting))
-            .unwrap_or_else(|| self.unnamed(setting))
     }
 
-    // Moves the position of an axis.
-    fn follow(&self, settings: &mut Settings, endings: Endings, axis: Axis)
-        ensures { (s : S) → value_of settings.new s ≡ (if same s (position axis) then next_by self.now.motion (slots_of self.now) endings (value_of self.now.settings) s else value_of settings.old s) }
+    // Moves the position of an axis, as an order has it that names it, or by its drive.
+    fn follow(&mut self, endings: Endings, axis: Axis)
+        ensures values { (s : S) → value_of self.new.settings s ≡ followed_by self.old.motion (slots_of self.old) endings axis (value_of self.old.settings) s }
+        ensures rest { (self.new.motion ≡ self.old.motion) × (self.new.one ≡ self.old.one) × (self.new.two ≡ self.old.two) }
     {
         let setting = axis.position();
-        // It is never out of range, so nothing is lost.
-        let _ = settings.set(setting, self.next(endings, setting));
+        match self.ordered(endings, setting) {
+            Some(to) => {
+                // It is never out of range, so nothing is lost.
+                let _ = self.settings.set(setting, to);
+            }
+            None => self.drift(axis),
+        }
     }
 
-    // All settings after this tick.
-    fn advanced(&self, endings: Endings) -> Settings
-        ensures { (s : S) → value_of result s ≡ next_by self.now.motion (slots_of self.now) endings (value_of self.now.settings) s }
+    // Takes all settings to their values after this tick.
+    fn advance(&mut self, endings: Endings)
+        ensures values { (s : S) → value_of self.new.settings s ≡ next_by self.old.motion (slots_of self.old) endings (value_of self.old.settings) s }
+        ensures rest { (self.new.motion ≡ self.old.motion) × (self.new.one ≡ self.old.one) × (self.new.two ≡ self.old.two) }
     {
-        let mut settings = self.settings;
-        self.follow(&mut settings, endings, Axis::Zoom);
-        self.follow(&mut settings, endings, Axis::Focus);
-        self.follow(&mut settings, endings, Axis::Pan);
-        self.follow(&mut settings, endings, Axis::Tilt);
-        close(&mut settings, &self.one, endings.one);
-        close(&mut settings, &self.two, endings.two);
-        settings
+        self.follow(endings, Axis::Zoom);
+        self.follow(endings, Axis::Focus);
+        self.follow(endings, Axis::Pan);
+        self.follow(endings, Axis::Tilt);
+        close(&mut self.settings, &self.one, endings.one);
+        close(&mut self.settings, &self.two, endings.two);
     }
 
     // A tick with an order at work in a slot, or in both.
@@ -125,22 +133,10 @@ impl Rig {
         let one = self.ending(&self.one);
         let two = self.ending(&self.two);
         let endings = Endings { one, two };
-        self.settings = self.advanced(endings);
+        self.advance(endings);
         count_down(&mut self.one);
         count_down(&mut self.two);
         endings
-    }
-
-    // Moves the position of an axis by its drive, which most often is 0.
-    fn drift(&mut self, axis: Axis)
-        ensures values { (s : S) → value_of self.new.settings s ≡ drifted self.old.motion axis (value_of self.old.settings) s }
-        ensures rest { (self.new.motion ≡ self.old.motion) × (self.new.one ≡ self.old.one) × (self.new.two ≡ self.old.two) }
-    {
-        if self.settings.get(axis.drive()) != 0 {
-            let to = self.driven(axis);
-            // It is never out of range, so nothing is lost.
-            let _ = self.settings.set(axis.position(), to);
-        }
     }
 
     /// One tick: both orders go on, those with their last tick end, and settings follow.

@@ -1,10 +1,5 @@
 -- The first element that f gives something for, as a loop over the elements finds it.
-use Rattle.std.proofs.Common.{◌≡◌, ℕ, zero, suc, ◌+◌, ◌<◌, List, [], ◌∷◌, length, get_or, IfSome, IsSomeAnd, MatchOption, IsTrue, Some, None, Option, Bor, sym, refl, ap, ◌∙◌, arith}
-use denote.Param.Members.{Mut}
-use Rattle.std.specs.Fn.{Called}
-use Rattle.std.specs.Iterator.Runs.{Run, ProjectsRun, ItemsMapTo, AllItemsGive, IsFirstToGive}
-use Rattle.std.specs.Option.{option_map}
-use Rattle.head.proofs.Options.{no_some, some_out}
+use Rattle.std.proofs.Common.{◌≡◌, ℕ, zero, suc, ◌<◌, List, [], ◌∷◌, length, get_or, Some, None, Option, sym, refl, arith}
 use Rattle.rows.specs.Search.{first_of}
 
 module _ {X M : Type 0} (f : X → Option M) where

@@ -48,6 +48,7 @@ pub const COMMANDS: [CommandRow; 12] = [
 
 /// Reads a command behind its first byte, `01`: the place of the one row that admits it, from 0, and
 /// the order that it is.
+#[inline(never)]
 pub fn read_command(body: &[u8]) -> Result<(usize, Order), RowFault>
     ensures is { result ≡ command_read body.now }
     ensures one_row { ByOneRow body.now result }

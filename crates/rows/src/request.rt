@@ -30,6 +30,7 @@ impl From<RowFault> for PacketFault {
     }
 }
 
+#[inline(always)]
 fn command(rest: &[u8]) -> Result<Request, PacketFault>
     ensures { result ≡ as_command (command_read rest.now) }
 {
@@ -37,6 +38,7 @@ fn command(rest: &[u8]) -> Result<Request, PacketFault>
     Ok(Request::Command(row, order))
 }
 
+#[inline(always)]
 fn asked(rest: &[u8]) -> Result<Request, PacketFault>
     ensures { result ≡ as_inquiry (inquiry_read rest.now) }
 {
@@ -45,6 +47,7 @@ fn asked(rest: &[u8]) -> Result<Request, PacketFault>
 }
 
 /// Reads a body: `01` begins a command, `09` an inquiry.
+#[inline(always)]
 pub fn read(body: &[u8]) -> Result<Request, PacketFault>
     ensures { result ≡ read_body body.now }
 {

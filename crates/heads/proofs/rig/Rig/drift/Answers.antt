@@ -4,7 +4,7 @@ use Rattle.head.specs.declared.setting.Setting.{Setting}
 use Rattle.head.specs.Settings.{in_range, position, drive, same}
 use Rattle.head.specs.Values.{value_of}
 use Rattle.heads.specs.Motion.{driven}
-use Rattle.heads.proofs.Given.{followed}
+use Rattle.heads.proofs.Given.{written}
 use Rattle.heads.proofs.Idle.{stands}
 use Rattle.heads.proofs.Moves.{driven_in_range}
 use Rattle.heads.proofs.rig.Rig.drift.Goals as goal
@@ -22,7 +22,7 @@ returns-then-get-ne0-clause-values c =
     let k = subst (λ (z : Setting). in_range z d ≡ true) (sym c.position.ensures) h in
     let t = c.set.ensures.taken ∙ subst (λ (w : ℤ). in_range x w ≡ true) (sym v) k in
     subst (λ (z : Setting). (s : Setting) → value_of c.set.new.self s ≡ cond (same s z) d (f s)) c.position.ensures
-    (followed x (is_ok c.set.result) (to_z w32 (of_z w32 c.driven-to.result)) f (value_of c.set.new.self) (λ s. d) t v c.set.ensures.values)
+    (written x (is_ok c.set.result) (to_z w32 (of_z w32 c.driven-to.result)) f (value_of c.set.new.self) (λ s. d) t v c.set.ensures.values)
 
 pub returns-else-get-ne0-clause-values : goal.returns-else-get-ne0-clause-values
 returns-else-get-ne0-clause-values c = λ s.
