@@ -72,9 +72,7 @@ fn tell(header: u8, endings: Endings, out: &mut [u8]) -> usize
     ensures front { take result out.new ≡ ended_by header 1 endings.one ++ ended_by header 2 endings.two }
     ensures untouched { drop result out.new ≡ drop result out.old }
 {
-    // Most ticks end nothing, and of others most end one order.
     match (endings.one, endings.two) {
-        (None, None) => 0,
         (one, None) => put(ended(header, Which::One, one), out),
         (None, two) => put(ended(header, Which::Two, two), out),
         (one, two) => {
@@ -139,6 +137,10 @@ impl<H: Head> End<H> {
         let endings = self.head.tick();
         settle(&mut self.sockets.one, endings.one);
         settle(&mut self.sockets.two, endings.two);
+        // Most ticks end nothing.
+        if endings.one.is_none() && endings.two.is_none() {
+            return Ok(0);
+        }
         Ok(tell(self.own_header(), endings, out))
     }
 

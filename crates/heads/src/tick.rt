@@ -48,7 +48,7 @@ fn count_down(slot: &mut Option<Job>)
 
 impl Rig {
     // How a slot's order ends at this tick, if it does.
-    #[inline]
+    #[inline(always)]
     fn ending(&self, job: &Option<Job>) -> Option<Ending>
         ensures { result ≡ foretold self.now.motion (slot_of job.now) (value_of self.now.settings) }
     {

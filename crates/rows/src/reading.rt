@@ -15,6 +15,7 @@ const STILL: Paces = Paces {
 
 // An order of these targets, if every one is in range.
 #[tactic(auto, unfolding(crate::specs::Reading::ranged))]
+#[inline(always)]
 fn ranged(targets: Targets, paces: Paces) -> Option<Order>
     ensures { result ≡ ranged_by targets paces }
 {
