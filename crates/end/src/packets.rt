@@ -10,10 +10,10 @@ ghost use Rattle.rows.specs.Requests.{read_body};
 ghost use Rattle.wire.specs.Framing.{bytes_of};
 
 use crate::end::End;
-use crate::sending::{answer_to, both};
+use crate::sending::both;
 use crate::socket::Which;
 use head::{Head, Order};
-use rows::{PacketFault, Request, read};
+use rows::{PacketFault, Request, answered, read};
 use rules::{Problem, Reply, Rule, forbidden};
 use wire::{Bytes, Packet};
 
@@ -80,7 +80,7 @@ impl<H: Head> End<H> {
     {
         match request {
             Request::Command(_, order) => self.command(order),
-            Request::Ask(inquiry) => answer_to(&self.head, inquiry, self.own_header()),
+            Request::Ask(inquiry) => answered(&self.head, inquiry, self.own_header()),
         }
     }
 

@@ -1,10 +1,7 @@
 //! What a call sends: at most 16 bytes, and how they come into the caller's buffer.
 
 ghost use Rattle.std.specs.Prelude.{◌≡◌, ◌+◌, ◌≤◌, ◌++◌, length, take, drop};
-ghost use Rattle.rows.specs.Answers.{answer_of};
 
-use head::Look;
-use rows::{Inquiry, answer};
 use wire::{Bytes, send_at};
 
 /// The least room that a call must be given.
@@ -18,15 +15,6 @@ pub(crate) fn both(first: Bytes, second: Bytes) -> Bytes
     let mut sent = first;
     sent.extend_from_slice(second.as_slice()).unwrap();
     sent
-}
-
-/// The answer to an inquiry behind its header.
-pub(crate) fn answer_to<L: Look>(from: &L, inquiry: Inquiry, header: u8) -> Bytes
-    ensures { result ≡ answer_of L.Look from.now header inquiry }
-{
-    let mut room = [0; 16];
-    let count = answer(from, inquiry, header, &mut room).unwrap();
-    Bytes::try_from(&room[..count]).unwrap()
 }
 
 /// Puts the bytes at the front of the buffer and tells their count.
