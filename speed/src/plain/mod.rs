@@ -49,6 +49,12 @@ fn log_on<H: Head>(head: H, calls: &[u16], log: &mut [u8]) -> usize {
     at
 }
 
+/// A tick, kept apart from the loop so that a profile tells ticks from bytes.
+#[inline(never)]
+fn tick_on<H: Head>(end: &mut End<H>, buffer: &mut [u8; 16]) -> usize {
+    end.tick(buffer).unwrap_or_else(|fault| fault.sent)
+}
+
 fn time_on<H: Head>(head: H, calls: &[u16]) -> u64 {
     let mut end = End::new(head);
     let mut buffer = [0; 16];
@@ -58,7 +64,7 @@ fn time_on<H: Head>(head: H, calls: &[u16]) -> u64 {
             byte @ 0..=255 => end
                 .byte(byte as u8, &mut buffer)
                 .unwrap_or_else(|fault| fault.sent),
-            TICK => end.tick(&mut buffer).unwrap_or_else(|fault| fault.sent),
+            TICK => tick_on(&mut end, &mut buffer),
             _ => usize::from(end.open()[0]),
         };
         sum = sum
