@@ -53,8 +53,8 @@ impl Rig {
     fn admit(&self, pan_tilt: bool, slot: u8, order: Order) -> Result<(), Refusal>
         ensures { answered result ≡ refusal (means pan_tilt self.now) slot order }
     {
-        let one = self.one.map(|job| job.order);
-        let two = self.two.map(|job| job.order);
+        let one = self.one.as_ref().map(|job| job.order);
+        let two = self.two.as_ref().map(|job| job.order);
         admit(pan_tilt, one, two, slot, order)
     }
 

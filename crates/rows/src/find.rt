@@ -9,21 +9,6 @@ ghost use Rattle.rows.specs.Admitted.{covers, admits};
 use crate::fault::RowFault;
 use crate::row::{Body, Row};
 
-// The first row that admits a body, by its place, with what it makes of it.
-fn first<R: Row>(rows: &[R], body: Body<'_>) -> Option<(usize, R::Meaning)>
-    ensures { result ≡ first_of (admits R.Row body.entry) rows.now }
-{
-    // A loop: nothing is made for a row that has another category or code, not even an empty answer.
-    for (i, row) in rows.iter().enumerate() {
-        if row.covers(body) {
-            if let Some(meaning) = row.read(body) {
-                return Some((i, meaning));
-            }
-        }
-    }
-    None
-}
-
 // Whether some row has a body's category and code.
 fn known<R: Row>(rows: &[R], body: Body<'_>) -> bool
     ensures { result ≡ list_any (covers R.Row body.entry) rows.now }
@@ -42,15 +27,19 @@ fn fault<R: Row>(rows: &[R], body: Body<'_>) -> RowFault
     }
 }
 
-// The first row that admits a body, or what is wrong with the body.
+// The first row that admits a body, by its place, with what it makes of it; or what is wrong with the body.
 fn search<R: Row>(rows: &[R], body: Body<'_>) -> Result<(usize, R::Meaning), RowFault>
     ensures { result ≡ ok_or (first_of (admits R.Row body.entry) rows.now) (fault_of (list_any (covers R.Row body.entry) rows.now)) }
 {
-    // Not `ok_or_else`: of a closure that captures `rows` the check learns nothing, whatever it ensures.
-    match first(rows, body) {
-        Some(row) => Ok(row),
-        None => Err(fault(rows, body)),
+    // A loop: nothing is made for a row that has another category or code, not even an empty answer.
+    for (i, row) in rows.iter().enumerate() {
+        if row.covers(body) {
+            if let Some(meaning) = row.read(body) {
+                return Ok((i, meaning));
+            }
+        }
     }
+    Err(fault(rows, body))
 }
 
 /// Reads a body behind its first byte: the first row that admits it, by its place, with what it

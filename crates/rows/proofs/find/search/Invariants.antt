@@ -1,6 +1,6 @@
 use Rattle.std.proofs.Common.{◌≡◌, ℕ, ◌<◌, ◌≤◌, length, get_or, None}
 use Rattle.rows.specs.Admitted.{admits}
-use Rattle.rows.proofs.find.first.Given as goal
+use Rattle.rows.proofs.find.search.Given as goal
 
 -- none of the rows that the loop has passed admits the body
 abbrev pub invariant-loop-i : goal.invariant-loop-i
