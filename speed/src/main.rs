@@ -35,8 +35,8 @@ fn main() -> ExitCode {
             let least = number(words.next(), 1_000_000);
             return compare::compare(least, number(words.next(), 1));
         }
-        Some("time") => time::time(number(words.next(), 301) as usize),
-        Some("rows") => time::rows(number(words.next(), 301) as usize),
+        Some("time") => time::time(number(words.next(), 2001) as usize),
+        Some("rows") => time::rows(number(words.next(), 2001) as usize),
         Some("lists") => time::lists(),
         Some("play") => play(words.next(), words.next()),
         _ => {

@@ -45,9 +45,10 @@ fn median(mut some: Vec<f64>) -> f64 {
     some[some.len() / 2]
 }
 
-/// The median nanoseconds of a list at both ends, plain first, in alternating rounds.
+/// The median nanoseconds of a list at both ends, plain first, in alternating rounds. A round is well under a
+/// millisecond, so that most are not interrupted on a machine with other work.
 fn both(kind: Kind, calls: &[u16], rounds: usize) -> [f64; 2] {
-    let times = (200_000 / calls.len()).max(1);
+    let times = (20_000 / calls.len()).max(1);
     let mut taken = [Vec::new(), Vec::new()];
     for _ in 0..rounds {
         taken[0].push(clock(|| plain_time(kind, black_box(calls)), times));
@@ -81,10 +82,7 @@ pub fn time(rounds: usize) {
     for kind in Kind::ALL {
         let lists = STRETCHES.map(lecture_calls);
         let counts = [counted(&lists[0]), counted(&lists[1])];
-        let taken = [
-            both(kind, &lists[0], rounds),
-            both(kind, &lists[1], rounds / 10 + 1),
-        ];
+        let taken = [both(kind, &lists[0], rounds), both(kind, &lists[1], rounds)];
         let [plain, proved] = [0, 1].map(|end| solved(counts, [taken[0][end], taken[1][end]]));
         row(&format!("{kind:?}, a byte"), [plain[0], proved[0]]);
         row(&format!("{kind:?}, a tick"), [plain[1], proved[1]]);
