@@ -19,11 +19,15 @@ pub fn list(name: &str) -> Vec<u16> {
     }
 }
 
-/// The lists with the numbers of bytes and ticks in each, for scripts.
+/// The lists for scripts: of the lecture with the numbers of bytes and ticks, of a row with the number of packets
+/// and what it is.
 pub fn lists() {
     for name in ["bytes", "ticks"] {
         let [bytes, ticks] = counted(&list(name));
         println!("{name} {bytes} {ticks}");
+    }
+    for (place, (name, packet)) in ROWS.iter().enumerate() {
+        println!("{place} {PACKETS} {name} ({} bytes)", packet.len());
     }
 }
 

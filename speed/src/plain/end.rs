@@ -235,6 +235,8 @@ impl<H: Head> Station<H> {
         Err(Fault { code, sent })
     }
 
+    // Most bytes make no packet whole.
+    #[inline(never)]
     fn packet(&mut self, packet: &[u8], out: &mut [u8]) -> Result<usize, Fault> {
         let header = packet[0];
         if self.address != 0 && header >> 4 & 7 == self.address {
@@ -284,6 +286,7 @@ impl<H: Head> End<H> {
         }
     }
 
+    #[inline]
     pub fn byte(&mut self, byte: u8, out: &mut [u8]) -> Result<usize, Fault> {
         if out.len() < 16 {
             return Err(SHORT_BUFFER);
