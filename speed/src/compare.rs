@@ -92,6 +92,14 @@ fn count_calls<H: Head>(counts: &mut Counts, head: H, calls: &[u16]) {
     }
 }
 
+fn count_kind(counts: &mut Counts, kind: Kind, calls: &[u16]) {
+    match kind {
+        Kind::Block => count_calls(counts, Camera::<true>::new(false), calls),
+        Kind::Dome => count_calls(counts, Camera::<false>::new(false), calls),
+        Kind::StalledDome => count_calls(counts, Camera::<false>::new(true), calls),
+    }
+}
+
 fn count_records(counts: &mut Counts, calls: &[u16], log: &[u8]) {
     let mut at = 0;
     for call in calls {
@@ -145,11 +153,7 @@ pub fn compare(least: u64, seed: u64) -> ExitCode {
                 return ExitCode::FAILURE;
             }
         }
-        match kind {
-            Kind::Block => count_calls(&mut counts, Camera::<true>::new(false), &calls),
-            Kind::Dome => count_calls(&mut counts, Camera::<false>::new(false), &calls),
-            Kind::StalledDome => count_calls(&mut counts, Camera::<false>::new(true), &calls),
-        }
+        count_kind(&mut counts, kind, &calls);
         calls_made += calls.len() as u64;
         ticks += calls.iter().filter(|call| **call % 512 == TICK).count() as u64;
         turn += 1;
@@ -157,13 +161,16 @@ pub fn compare(least: u64, seed: u64) -> ExitCode {
     println!(
         "{calls_made} calls in {turn} lists, of them {ticks} ticks, on both ends: no difference"
     );
-    for (what, times) in &counts {
+    tell(&counts)
+}
+
+/// Prints the counts. Traffic in which a mode never forbade anything would compare too little.
+fn tell(counts: &Counts) -> ExitCode {
+    for (what, times) in counts {
         println!("{times:>12} {what}");
     }
-    let all = Forbids::ALL
-        .iter()
-        .all(|reason| counts.contains_key(&format!("forbidden by {reason:?}")));
-    if all {
+    let each = |reason| counts.contains_key(&format!("forbidden by {reason:?}"));
+    if Forbids::ALL.iter().all(each) {
         ExitCode::SUCCESS
     } else {
         ExitCode::FAILURE

@@ -1,4 +1,4 @@
-//! Traffic: random calls over all that the rules tell apart, and the lecture of lecture.txt.
+//! Traffic: random calls over all that the rules tell apart, and the lecture of lecture.txt, which is made up.
 
 use crate::calls::{OPEN, SHORT, TICK, bytes};
 
@@ -45,61 +45,49 @@ fn digits(n: i32) -> [u8; 4] {
     [12, 8, 4, 0].map(|shift| (n >> shift) as u8 & 15)
 }
 
-/// The body of a command, by the row; most have operands that the row admits.
-fn command(dice: &mut Dice) -> Vec<u8> {
-    let mut body = vec![0x01];
-    match dice.below(12) {
-        0 => body.extend([0x04, 0x00, dice.one_of(&[2, 2, 2, 2, 2, 2, 2, 3, 1, 4])]),
-        row @ 1..=2 => {
-            let drive = match dice.below(3) {
-                0 => dice.one_of(&[0x00, 0x02, 0x03, 0x01, 0x04]),
-                1 => dice.edge(0x20, 0x27) as u8,
-                _ => dice.edge(0x30, 0x37) as u8,
-            };
-            body.extend([0x04, 0x06 + row as u8, drive]);
-        }
-        3 => {
-            body.extend([0x04, 0x47]);
-            body.extend(digits(dice.edge(0, 0x4000)));
-        }
-        4 => {
-            body.extend([0x04, 0x47, dice.edge(0, 7) as u8]);
-            body.extend(digits(dice.edge(0, 0x4000)));
-        }
-        5 => {
-            body.extend([0x04, 0x48]);
-            body.extend(digits(dice.edge(0, 0xffff)));
-        }
-        6 => body.extend([
-            0x04,
-            dice.one_of(&MODES),
-            dice.one_of(&[2, 3, 2, 3, 0, 1, 5, 10, 11, 13, 4, 16]),
-        ]),
-        7 => body.extend([
-            0x04,
-            dice.one_of(&LEVELS),
-            0,
-            0,
-            dice.edge(0, 15) as u8,
-            dice.edge(0, 15) as u8,
-        ]),
-        8 => {
-            body.extend([0x04, 0x22]);
-            body.extend(digits(dice.edge(0, 0xffff)));
-        }
-        9 => {
-            let ways = [dice.edge(1, 3) as u8, dice.edge(1, 3) as u8];
-            body.extend([0x06, 0x01, dice.edge(1, 24) as u8, dice.edge(1, 20) as u8]);
-            body.extend(ways);
-        }
-        10 => {
-            body.extend([0x06, 0x02, dice.edge(1, 24) as u8, dice.edge(1, 20) as u8]);
-            body.extend(digits(dice.edge(-5120, 5120)));
-            body.extend(digits(dice.edge(-1280, 1280)));
-        }
-        _ => body.extend([0x06, 0x04]),
+/// What a command of a lens row, 1 to 6, has behind its first byte.
+fn lens(dice: &mut Dice, row: u64) -> Vec<u8> {
+    let drive = match dice.below(3) {
+        0 => dice.one_of(&[0x00, 0x02, 0x03, 0x01, 0x04]),
+        1 => dice.edge(0x20, 0x27) as u8,
+        _ => dice.edge(0x30, 0x37) as u8,
+    };
+    let zoom = digits(dice.edge(0, 0x4000));
+    match row {
+        1 => vec![0x04, 0x00, dice.one_of(&[2, 2, 2, 2, 2, 2, 2, 3, 1, 4])],
+        2 => vec![0x04, 0x07, drive],
+        3 => vec![0x04, 0x08, drive],
+        4 => [&[0x04, 0x47], &zoom[..]].concat(),
+        5 => [&[0x04, 0x47, dice.edge(0, 7) as u8], &zoom[..]].concat(),
+        _ => [&[0x04, 0x48], &digits(dice.edge(0, 0xffff))[..]].concat(),
     }
-    body
+}
+
+/// The same of the rows 7 to 12.
+fn picture_or_pan_tilt(dice: &mut Dice, row: u64) -> Vec<u8> {
+    let mode = dice.one_of(&[2, 3, 2, 3, 0, 1, 5, 10, 11, 13, 4, 16]);
+    let level = [dice.edge(0, 15) as u8, dice.edge(0, 15) as u8];
+    let paces = [dice.edge(1, 24) as u8, dice.edge(1, 20) as u8];
+    let ways = [dice.edge(1, 3) as u8, dice.edge(1, 3) as u8];
+    let pan = digits(dice.edge(-5120, 5120));
+    let tilt = digits(dice.edge(-1280, 1280));
+    match row {
+        7 => vec![0x04, dice.one_of(&MODES), mode],
+        8 => [&[0x04, dice.one_of(&LEVELS), 0, 0], &level[..]].concat(),
+        9 => [&[0x04, 0x22], &digits(dice.edge(0, 0xffff))[..]].concat(),
+        10 => [&[0x06, 0x01], &paces[..], &ways[..]].concat(),
+        11 => [&[0x06, 0x02], &paces[..], &pan[..], &tilt[..]].concat(),
+        _ => vec![0x06, 0x04],
+    }
+}
+
+/// The body of a command; most have operands that a row admits.
+fn command(dice: &mut Dice) -> Vec<u8> {
+    let rest = match 1 + dice.below(12) {
+        row @ 1..=6 => lens(dice, row),
+        row => picture_or_pan_tilt(dice, row),
+    };
+    [&[0x01], &rest[..]].concat()
 }
 
 fn inquiry(dice: &mut Dice) -> Vec<u8> {
@@ -200,7 +188,7 @@ pub fn random(dice: &mut Dice, least: usize) -> Vec<u16> {
     calls
 }
 
-/// A line of the recording: a packet, or so many ticks.
+/// A line of the lecture: a packet, or so many ticks.
 pub enum Line {
     Bytes(Vec<u8>),
     Ticks(usize),
