@@ -1,6 +1,8 @@
 -- What a head means: its settings, whether it has pan and tilt, and its two slots;
 -- and what looking, starting, ticking and dropping do to that.
 use Rattle.std.specs.Prelude.{◌≡◌, ℕ, ◌-◌, ◌<◌, ◌≤◌, Bool, false, cond, not, ◌&&◌, ◌||◌, ◌⊎◌, ℤ, pos, ◌≤ℤ◌, ◌<ℤ◌, is_some, Some, None, Ok, Err, Option, Result, ◌==◌, nat_lt}
+use Rattle.std.specs.Borrow.{Bor}
+use Rattle.std.specs.Option.{option_map}
 use Rattle.head.specs.declared.order.Order.{Order}
 use Rattle.head.specs.declared.outcome.Ending.{Ending}
 use Rattle.head.specs.declared.outcome.Ending.TheVariants.{Done, Jammed}
@@ -79,6 +81,10 @@ reason pantilt one two y o =
     (cond (not pantilt && any_pan_tilt (parts o.targets)) 4
     (cond (in_use (cond (y == 1) two one) o) 5
     0))))
+
+-- an order that is lent, where there is one
+abbrev pub lent : Option (Bor Order) → Option Order
+lent x = option_map (λ o. o.now) x
 
 abbrev pub refusal : Meaning → ℕ → Order → ℕ
 refusal m y o = reason m.pantilt (order_in m.slots.one) (order_in m.slots.two) y o

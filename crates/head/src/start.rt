@@ -1,7 +1,7 @@
 //! Whether a head can start an order: the five reasons against it, first to last.
 
 ghost use Rattle.std.specs.Prelude.{◌≡◌};
-ghost use Rattle.head.specs.Meaning.{answered, reason};
+ghost use Rattle.head.specs.Meaning.{answered, lent, reason};
 
 use crate::order::Order;
 use crate::outcome::Refusal;
@@ -10,12 +10,12 @@ use crate::outcome::Refusal;
 /// tilt and by the orders that the two slots hold.
 pub fn admit(
     pan_tilt: bool,
-    one: Option<Order>,
-    two: Option<Order>,
+    one: Option<&Order>,
+    two: Option<&Order>,
     slot: u8,
-    order: Order,
+    order: &Order,
 ) -> Result<(), Refusal>
-    ensures { answered result ≡ reason pan_tilt one two slot order }
+    ensures { answered result ≡ reason pan_tilt (lent one.entry) (lent two.entry) slot order.now }
 {
     // A number, as a head is asked for it: the first reason is that there is no such slot.
     let (own, other) = match slot {
@@ -29,7 +29,7 @@ pub fn admit(
         Err(Refusal::OutOfRange)
     } else if !pan_tilt && order.needs_pan_tilt() {
         Err(Refusal::NoPanTilt)
-    } else if other.is_some_and(|held| order.meets(&held)) {
+    } else if other.is_some_and(|held| order.meets(held)) {
         Err(Refusal::SettingInUse)
     } else {
         Ok(())

@@ -50,11 +50,11 @@ impl Rig {
     }
 
     // Turns an order down with the first reason against it.
-    fn admit(&self, pan_tilt: bool, slot: u8, order: Order) -> Result<(), Refusal>
-        ensures { answered result ≡ refusal (means pan_tilt self.now) slot order }
+    fn admit(&self, pan_tilt: bool, slot: u8, order: &Order) -> Result<(), Refusal>
+        ensures { answered result ≡ refusal (means pan_tilt self.now) slot order.now }
     {
-        let one = self.one.as_ref().map(|job| job.order);
-        let two = self.two.as_ref().map(|job| job.order);
+        let one = self.one.as_ref().map(|job| &job.order);
+        let two = self.two.as_ref().map(|job| &job.order);
         admit(pan_tilt, one, two, slot, order)
     }
 
@@ -64,7 +64,7 @@ impl Rig {
         ensures ticks { answered result ≡ 0 → slots_of self.new ≡ put (slots_of self.old) slot (busy order (ticks_of self.old.motion (value_of self.old.settings) order)) }
         ensures motion { self.new.motion ≡ self.old.motion }
     {
-        self.admit(pan_tilt, slot, order)?;
+        self.admit(pan_tilt, slot, &order)?;
         let left = self.ticks(&order) as u16;
         let job = Some(Job { order, left });
         if slot == 1 {

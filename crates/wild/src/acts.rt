@@ -31,11 +31,11 @@ impl Wild {
     }
 
     // Turns an order down with the first reason against it.
-    fn admit(&self, slot: u8, order: Order) -> Result<(), Refusal>
-        ensures { answered result ≡ refusal (means self.now) slot order }
+    fn admit(&self, slot: u8, order: &Order) -> Result<(), Refusal>
+        ensures { answered result ≡ refusal (means self.now) slot order.now }
     {
-        let one = self.one.map(|work| work.order);
-        let two = self.two.map(|work| work.order);
+        let one = self.one.as_ref().map(|work| &work.order);
+        let two = self.two.as_ref().map(|work| &work.order);
         admit(self.pan_tilt, one, two, slot, order)
     }
 }
@@ -74,7 +74,7 @@ impl Head for Wild {
 
     // The ticks have nothing to do with the order.
     fn start(&mut self, slot: u8, order: Order) -> Result<(), Refusal> {
-        self.admit(slot, order)?;
+        self.admit(slot, &order)?;
         let left = 1 + self.dice.roll(1000) as u16;
         let work = Some(Work { order, left });
         if slot == 1 {
