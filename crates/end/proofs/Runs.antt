@@ -8,9 +8,9 @@ use Rattle.end.specs.declared.socket.Sockets.{Sockets}
 use Rattle.end.specs.Book.{Book, Entry, Standing, Seen, closed, between, cut, reads, receives, sees, ages, older, notes, accepted, enters, book_of, fresh, clearing}
 use Rattle.end.specs.Deeds.{Same}
 use Rattle.end.specs.Faults.{Answer, opens}
-use Rattle.end.specs.Law.{Run, Lawful, Law, Agreement, WholePackets, InOrder, InTime, MayChange, open_by, entry, Keeps, Played, Served, room_for, SocketsAgreeInEveryRun}
+use Rattle.end.specs.Law.{Run, Lawful, Law, Agreement, WholePackets, InOrder, MayChange, open_by, entry, Keeps, Played, Served, room_for, SocketsAgreeInEveryRun}
 use Rattle.end.specs.Law as law
-use Rattle.end.specs.Outcomes.{Outcome, own_header, sends, fails, framed, met, ended, requested as asked-for}
+use Rattle.end.specs.Outcomes.{Outcome, own_header, sends, fails, framed, met, ended, requested as asked_for}
 use Rattle.end.specs.States.{State, InRange}
 use Rattle.end.specs.Steps.{Came, Made, Step}
 use Rattle.end.proofs.Effects as effects
@@ -70,7 +70,7 @@ cond_same : (b : Bool) (a : ℕ) → cond b a a ≡ a
 cond_same true a = refl
 cond_same false a = refl
 
-requested_address : (a : ℕ) (m : Meaning) (k : Sockets) (r : Result Request PacketFault) → (asked-for a m k r).address ≡ a
+requested_address : (a : ℕ) (m : Meaning) (k : Sockets) (r : Result Request PacketFault) → (asked_for a m k r).address ≡ a
 requested_address a m k (Ok (Command row o)) = simp (cond_address, cond_same)
 requested_address a m k (Ok (Ask q)) = refl
 requested_address a m k (Err f) = refl

@@ -1,10 +1,9 @@
 //! What an end says of itself, as packets: a header, one or two bytes, and FF.
 
-ghost use Rattle.std.specs.Prelude.{◌≡◌, ◌+◌, ◌≤◌, length, if◌then◌else◌, Some, None, nat_le};
+ghost use Rattle.std.specs.Prelude.{◌≡◌, ◌≤◌, length};
 ghost use Rattle.rules.specs.Replies.{code_of, packet};
-ghost use Rattle.wire.specs.Line.{over_at};
 
-use wire::{Bytes, send_at};
+use wire::Bytes;
 
 /// What is wrong, by VISCA's code.
 #[derive(Clone, Copy, PartialEq, Eq, Debug)]
@@ -59,14 +58,5 @@ impl Reply {
             Reply::Completion(y) => bytes(&[header, 0x50 + y % 16, 0xff]),
             Reply::Error(y, problem) => bytes(&[header, 0x60 + y % 16, problem.code(), 0xff]),
         }
-    }
-
-    /// Puts the reply's packet into the buffer from a place on and tells the place behind it; a
-    /// buffer that is too short for it is left as it is.
-    pub fn send_at(self, header: u8, out: &mut [u8], at: usize) -> Option<usize>
-        ensures next { result ≡ (if nat_le (at + length (packet header self)) (length out.old) then Some (at + length (packet header self)) else None) }
-        ensures sent { out.new ≡ (if nat_le (at + length (packet header self)) (length out.old) then over_at at (packet header self) out.old else out.old) }
-    {
-        send_at(out, at, self.packet(header).as_slice())
     }
 }
