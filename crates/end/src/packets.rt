@@ -40,7 +40,7 @@ impl<H: Head> End<H> {
     {
         let other = which.other();
         let taken = self.reply(Reply::Acknowledgement(which.number()));
-        if !self.sockets.meets(other, &order) {
+        if !self.sockets.shares_setting(other, &order) {
             self.start_command(which, order);
             return taken;
         }

@@ -95,10 +95,11 @@ impl Sockets {
     }
 
     /// Whether the order in a socket names a setting of this one.
-    pub(crate) fn meets(self, which: Which, order: &Order) -> bool
+    pub(crate) fn shares_setting(self, which: Which, order: &Order) -> bool
         ensures { result ≡ in_use (socket_at self (number_of which)) order.now }
     {
-        self.get(which).is_some_and(|held| order.meets(&held))
+        self.get(which)
+            .is_some_and(|held| order.shares_setting(&held))
     }
 
     /// Which are open.

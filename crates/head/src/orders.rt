@@ -52,9 +52,9 @@ impl Order {
     }
 
     /// Whether some setting is named by both orders.
-    pub fn meets(&self, other: &Order) -> bool
+    pub fn shares_setting(&self, other: &Order) -> bool
         ensures { result ≡ shares (parts self.now.targets) (parts other.now.targets) }
     {
-        self.targets.meet(&other.targets)
+        self.targets.share_setting(&other.targets)
     }
 }

@@ -29,7 +29,7 @@ pub fn admit(
         Err(Refusal::OutOfRange)
     } else if !pan_tilt && order.needs_pan_tilt() {
         Err(Refusal::NoPanTilt)
-    } else if other.is_some_and(|held| order.meets(held)) {
+    } else if other.is_some_and(|held| order.shares_setting(held)) {
         Err(Refusal::SettingInUse)
     } else {
         Ok(())

@@ -77,7 +77,7 @@ impl Targets {
     }
 
     /// Whether some setting is named by both.
-    pub(crate) fn meet(&self, other: &Targets) -> bool
+    pub(crate) fn share_setting(&self, other: &Targets) -> bool
         ensures { result ≡ shares (parts self.now) (parts other.now) }
     {
         self.as_slice().iter().any(|t| other.names(t.setting))

@@ -31,12 +31,13 @@ impl Framer {
             }
             (State::Idle, _) => Err(FramingFault::NoHeader),
             (State::Begun(begun), 0xff) => {
-                let mut bytes = *begun;
+                let only_header = begun.len() == 1;
+                begun.push(byte);
+                let bytes = *begun;
                 self.state = State::Idle;
-                if bytes.len() == 1 {
+                if only_header {
                     return Err(FramingFault::NoBody);
                 }
-                bytes.push(byte);
                 Ok(Some(Packet { bytes }))
             }
             (State::Begun(bytes), _) => {
