@@ -19,6 +19,9 @@ use std::io;
 use std::io::{ErrorKind, Read, Write};
 use std::time::{Clock, Instant};
 
+/// The most bytes that a read asks for.
+pub const READ: usize = 256;
+
 // Writes what a call sent.
 fn reply<W: Write>(sent: &[u8], line: &mut W) -> io::Result<()>
     ensures written { OnOk result (Appends (W.contents line.old) (W.contents line.new) sent.now) }
@@ -132,7 +135,8 @@ impl<H: Head> Port<H> {
     }
 
     /// Turn after turn, each after a read and at the time that the clock then tells, until the line is quiet or has
-    /// gone: what ended it, or the first error. Time counts from the call.
+    /// gone: what ended it, or the first error. Time counts from the call. A read asks for a byte at least, so that
+    /// one of no bytes is a quiet one.
     pub fn serve<R: Read, W: Write, C: Clock>(
         &mut self,
         input: &mut R,
@@ -141,9 +145,10 @@ impl<H: Head> Port<H> {
     ) -> io::Result<Hearing>
         ensures served { IfOk result (λ h. Served (box self.old) (box self.new) h (R.remaining input.old) (R.remaining input.new) (W.contents line.old) (W.contents line.new)) }
         ensures stopped { OnErr result (Stopped (state self.old.end) (state self.new.end)) }
+        ensures asks { 0 < READ }
     {
         let start = Instant::now(clock)?;
-        let mut buffer = [0; 256];
+        let mut buffer = [0; READ];
         for _ in 0..u64::MAX {
             let read = input.read(&mut buffer);
             if is_interrupted(&read) {

@@ -1,3 +1,4 @@
+use Rattle.std.proofs.Common.{arith}
 use Rattle.serial.proofs.Turned.{on_err, none_made, none_served, served_kept, served_more, stopped_in, read_some, broken_off, went_on}
 use Rattle.serial.proofs.port.Port.serve.Goals as goal
 
@@ -22,6 +23,7 @@ returns-in-Quiet g c =
       served = served_more c.loop.invariant (read_some _ _ _ c.read-read.new.buf _ c.in_ok-count.was c.read-read.ensures.bytes)
           (record { answered = d.answered; ticks = d.ticks; silence = d.silence; quiet = d.quiet; told = d.told });
       stopped = tt;
+      asks = omega arith;
     }
 
 pub loop-preserved : goal.loop-preserved
