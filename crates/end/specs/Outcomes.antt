@@ -69,15 +69,6 @@ requested a m k (Ok (Command row o)) = commanded a m k o
 requested a m k (Ok (Ask q)) = sends a (inquiry.answered (own_header a) q m.setting m.pantilt)
 requested a m k (Err f) = fails a (Packet f) (own a (Error 0 Syntax))
 
--- what is sent where a packet leads to these bytes, or to a fault of its body; and the fault
-abbrev pub said : ℕ → Result (List ℕ) PacketFault → List ℕ
-said a (Ok bytes) = bytes
-said a (Err f) = own a (Error 0 Syntax)
-
-abbrev pub fault_in : Result (List ℕ) PacketFault → Option Cause
-fault_in (Ok bytes) = None
-fault_in (Err f) = Some (Packet f)
-
 -- a cancel of socket y
 abbrev pub cancelled : ℕ → Sockets → ℕ → Outcome
 cancelled a k y = cond (is_open (socket_at k y)) (does a (cancels y) (own a (Error y CancelledCommand))) (sends a (own a (Error y NoSocket)))

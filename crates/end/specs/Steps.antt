@@ -1,16 +1,15 @@
 -- One call on an end: what it answers, what it sends, and what the end and its head are then.
-use Rattle.std.specs.Prelude.{◌≡◌, ℕ, ◌<◌, ◌≤◌, List, [], length, Result}
+use Rattle.std.specs.Prelude.{◌≡◌, ℕ, ◌<◌, ◌≤◌, List, []}
 use Rattle.end.specs.declared.call.Call.{Call}
 use Rattle.end.specs.declared.call.Call.TheVariants.{Byte, Tick, Open}
 use Rattle.end.specs.declared.fault.Cause.TheVariants.{ShortBuffer}
 use Rattle.end.specs.Deeds.{Deed, DidHead, sockets_after, Cleared, Same}
-use Rattle.end.specs.Faults.{Answer, counts, opens}
-use Rattle.end.specs.Outcomes.{Outcome, fails, framed, ticked, answer_of, answer_with, said, fault_in}
+use Rattle.end.specs.Faults.{Answer, opens}
+use Rattle.end.specs.Outcomes.{Outcome, fails, framed, ticked, answer_of}
 use Rattle.end.specs.Sockets.{is_open, both_closed}
 use Rattle.end.specs.States.{State}
 use Rattle.head.specs.declared.outcome.Endings.{Endings}
 use Rattle.head.specs.Meaning.{Meaning}
-use Rattle.rows.specs.declared.fault.PacketFault.{PacketFault}
 use Rattle.wire.specs.Framing.{Held, none, next, event}
 
 -- a deed, with address and framing as before
@@ -28,14 +27,6 @@ pub record Came (s : State) (h : Held) (o : Outcome) (a : Answer) (sent : List �
   pub sockets : s'.sockets ≡ sockets_after o.deed s.sockets
   pub address : s'.address ≡ o.address
   pub held : s'.held ≡ h
-
--- what came of a packet, framing being as it was: these bytes are sent, with no fault
-abbrev pub Sends : State → Outcome → List ℕ → State → Type 0
-Sends s o sent s' = Came s s.held o (counts (length sent)) sent s'
-
--- these are sent, or there is a fault, with what is said of it
-abbrev pub Meets : State → Outcome → Result (List ℕ) PacketFault → State → Type 0
-Meets s o r s' = Came s s.held o (answer_with (said s.address r) (fault_in r)) (said s.address r) s'
 
 -- a call with a buffer of so many bytes: under 16 it is refused with fault 1, nothing is sent, end and head are as before
 pub record WithRoom (len : ℕ) (accepted : Type 0) (s : State) (a : Answer) (sent : List ℕ) (s' : State) : Type 0 where

@@ -4,12 +4,10 @@ ghost use Rattle.std.specs.Prelude.{◌≡◌, ◌<◌, ◌≤◌, [], ◌++◌,
 ghost use Rattle.end.specs.Deeds.{Cleared, settled as settled_by};
 ghost use Rattle.end.specs.Faults.{answered, count, opens, refused};
 ghost use Rattle.end.specs.Law.{Keeps};
-ghost use Rattle.end.specs.Outcomes.{ended as ended_by, met as met_by};
+ghost use Rattle.end.specs.Outcomes.{ended as ended_by};
 ghost use Rattle.end.specs.Sockets.{number};
 ghost use Rattle.end.specs.States.{meaning, state};
-ghost use Rattle.end.specs.Steps.{Came, Made, Step};
-ghost use Rattle.rules.specs.Ring.{rule_of};
-ghost use Rattle.wire.specs.Framing.{bytes_of};
+ghost use Rattle.end.specs.Steps.{Made, Step};
 
 use crate::call::Call;
 use crate::end::End;
@@ -18,7 +16,7 @@ use crate::sending::{ROOM, both, put};
 use crate::socket::{OpenSockets, Sockets, Which};
 use head::{Ending, Endings, Head, Look, Order};
 use rules::{Problem, Reply};
-use wire::{Bytes, Framer, Packet};
+use wire::{Bytes, Framer};
 
 // Whether the buffer has room for all that a call sends.
 fn room(out: &[u8]) -> Result<(), Fault>
@@ -73,12 +71,12 @@ fn tell(header: u8, endings: Endings, out: &mut [u8]) -> usize
     ensures untouched { drop result out.new ≡ drop result out.old }
 {
     match (endings.one, endings.two) {
-        (one, None) => put(ended(header, Which::One, one), out),
-        (None, two) => put(ended(header, Which::Two, two), out),
+        (one, None) => put(ended(header, Which::One, one).as_slice(), out),
+        (None, two) => put(ended(header, Which::Two, two).as_slice(), out),
         (one, two) => {
             let first = ended(header, Which::One, one);
             let second = ended(header, Which::Two, two);
-            put(both(first, second), out)
+            put(both(first, second).as_slice(), out)
         }
     }
 }
@@ -96,24 +94,6 @@ impl<H: Head> End<H> {
         }
     }
 
-    // A whole packet, and what it sends put into the caller's buffer. Most bytes make none whole, so that this
-    // is kept apart from what every byte does.
-    #[inline(never)]
-    fn take_packet(&mut self, packet: &Packet, out: &mut [u8]) -> Result<usize, Fault>
-        requires { 16 ≤ length out.old }
-        ensures came { Came (state self.old) (state self.old).held (met_by self.old.address (state self.old).head self.old.sockets (bytes_of packet.now) (rule_of self.old.address (bytes_of packet.now))) (answered result) (take (count result) out.new) (state self.new) }
-        ensures untouched { drop (count result) out.new ≡ drop (count result) out.old }
-    {
-        let header = self.own_header();
-        match self.meet(packet) {
-            Ok(sent) => Ok(put(sent, out)),
-            Err(fault) => Err(Fault {
-                cause: Cause::Packet(fault),
-                sent: put(Reply::Error(0, Problem::Syntax).packet(header), out),
-            }),
-        }
-    }
-
     // A byte, given a buffer. The clause `law` of `byte` follows from the others alone, which are said here
     // of the code; so it is for a tick.
     #[inline]
@@ -124,7 +104,7 @@ impl<H: Head> End<H> {
         room(out)?;
         let whole = self.framer.feed(byte)?;
         match whole {
-            Some(packet) => self.take_packet(&packet, out),
+            Some(packet) => self.meet(&packet, out),
             None => Ok(0),
         }
     }

@@ -1,21 +1,23 @@
 //! What comes of a whole packet.
 
-ghost use Rattle.std.specs.Prelude.{◌≡◌, Ok};
+ghost use Rattle.std.specs.Prelude.{◌≡◌, ◌≤◌, length, take, drop, Ok};
 ghost use Rattle.end.specs.Outcomes.{own, own_header as own_header_of, taken as taken_by, commanded as commanded_by, requested as requested_by, cancelled as cancelled_by, met as met_by};
 ghost use Rattle.end.specs.Sockets.{number};
 ghost use Rattle.end.specs.States.{state};
-ghost use Rattle.end.specs.Steps.{Sends, Meets};
+ghost use Rattle.end.specs.Steps.{Came};
+ghost use Rattle.end.specs.Faults.{answered as answered_of, count, counts};
 ghost use Rattle.rules.specs.Ring.{rule_of};
 ghost use Rattle.rows.specs.Requests.{read_body};
 ghost use Rattle.wire.specs.Framing.{bytes_of};
 
 use crate::end::End;
-use crate::sending::both;
+use crate::fault::{Cause, Fault};
+use crate::sending::{both, put};
 use crate::socket::Which;
 use head::{Head, Order};
-use rows::{PacketFault, Request, answered, read};
+use rows::{Request, answer, read};
 use rules::{Problem, Reply, Rule, forbidden};
-use wire::{Bytes, Packet};
+use wire::Packet;
 
 // Outcomes speak of address, head and sockets one by one, and of no whole state: what stands between bytes
 // is nothing to them.
@@ -27,94 +29,119 @@ impl<H: Head> End<H> {
         (self.address + 8) * 16
     }
 
-    // A reply of the end's own.
-    fn reply(&self, reply: Reply) -> Bytes
-        ensures { result ≡ own self.now.address reply }
+    // Sends a reply of the end's own.
+    fn send(&self, reply: Reply, out: &mut [u8]) -> usize
+        requires { 16 ≤ length out.old }
+        ensures count { result ≡ length (own self.now.address reply) }
+        ensures front { take result out.new ≡ own self.now.address reply }
+        ensures untouched { drop result out.new ≡ drop result out.old }
     {
-        reply.packet(self.own_header())
+        reply.send(self.own_header(), out).unwrap()
     }
 
     // A command for a socket, with the other's displaced where it names a common setting.
-    fn accept(&mut self, which: Which, order: Order) -> Bytes
-        ensures { Sends (state self.old) (taken_by self.old.address self.old.sockets (number which) order) result (state self.new) }
+    fn accept(&mut self, which: Which, order: Order, out: &mut [u8]) -> usize
+        requires { 16 ≤ length out.old }
+        ensures came { Came (state self.old) (state self.old).held (taken_by self.old.address self.old.sockets (number which) order) (counts result) (take result out.new) (state self.new) }
+        ensures untouched { drop result out.new ≡ drop result out.old }
     {
         let other = which.other();
-        let taken = self.reply(Reply::Acknowledgement(which.number()));
+        let taken = Reply::Acknowledgement(which.number());
         if !self.sockets.shares_setting(other, &order) {
             self.start_command(which, order);
-            return taken;
+            return self.send(taken, out);
         }
         self.displace_command(which, order);
-        let displaced = self.reply(Reply::Error(other.number(), Problem::Cancelled));
-        both(displaced, taken)
+        let header = self.own_header();
+        let displaced = Reply::Error(other.number(), Problem::Cancelled);
+        put(
+            both(displaced.packet(header), taken.packet(header)).as_slice(),
+            out,
+        )
     }
 
     // An admitted command.
-    fn command(&mut self, order: Order) -> Bytes
-        ensures { Sends (state self.old) (commanded_by self.old.address (state self.old).head self.old.sockets order) result (state self.new) }
+    fn command(&mut self, order: Order, out: &mut [u8]) -> usize
+        requires { 16 ≤ length out.old }
+        ensures came { Came (state self.old) (state self.old).held (commanded_by self.old.address (state self.old).head self.old.sockets order) (counts result) (take result out.new) (state self.new) }
+        ensures untouched { drop result out.new ≡ drop result out.old }
     {
         if self.sockets.full() {
-            return self.reply(Reply::Error(0, Problem::BufferFull));
+            return self.send(Reply::Error(0, Problem::BufferFull), out);
         }
         if forbidden(&self.head, self.sockets.powering_on(), &order) {
-            return self.reply(Reply::Error(0, Problem::NotExecutable));
+            return self.send(Reply::Error(0, Problem::NotExecutable), out);
         }
-        self.accept(self.sockets.free(), order)
+        self.accept(self.sockets.free(), order, out)
     }
 
     // A cancel of the command in the socket with this number.
-    fn cancel(&mut self, number: u8) -> Bytes
-        ensures { Sends (state self.old) (cancelled_by self.old.address self.old.sockets number) result (state self.new) }
+    fn cancel(&mut self, number: u8, out: &mut [u8]) -> usize
+        requires { 16 ≤ length out.old }
+        ensures came { Came (state self.old) (state self.old).held (cancelled_by self.old.address self.old.sockets number) (counts result) (take result out.new) (state self.new) }
+        ensures untouched { drop result out.new ≡ drop result out.old }
     {
         match Which::numbered(number) {
             Some(which) if self.sockets.get(which).is_some() => {
                 self.drop_command(which);
-                self.reply(Reply::Error(number, Problem::Cancelled))
+                self.send(Reply::Error(number, Problem::Cancelled), out)
             }
-            _ => self.reply(Reply::Error(number, Problem::NoSocket)),
+            _ => self.send(Reply::Error(number, Problem::NoSocket), out),
         }
     }
 
-    fn serve(&mut self, request: Request) -> Bytes
-        ensures { Sends (state self.old) (requested_by self.old.address (state self.old).head self.old.sockets (Ok request)) result (state self.new) }
+    fn serve(&mut self, request: Request, out: &mut [u8]) -> usize
+        requires { 16 ≤ length out.old }
+        ensures came { Came (state self.old) (state self.old).held (requested_by self.old.address (state self.old).head self.old.sockets (Ok request)) (counts result) (take result out.new) (state self.new) }
+        ensures untouched { drop result out.new ≡ drop result out.old }
     {
         match request {
-            Request::Command(_, order) => self.command(order),
-            Request::Ask(inquiry) => answered(&self.head, inquiry, self.own_header()),
+            Request::Command(_, order) => self.command(order, out),
+            Request::Ask(inquiry) => answer(&self.head, inquiry, self.own_header(), out).unwrap(),
         }
     }
 
     // A body that the rows read, or say what is wrong with.
-    fn request(&mut self, body: &[u8]) -> Result<Bytes, PacketFault>
-        ensures { Meets (state self.old) (requested_by self.old.address (state self.old).head self.old.sockets (read_body body.now)) result (state self.new) }
+    fn request(&mut self, body: &[u8], out: &mut [u8]) -> Result<usize, Fault>
+        requires { 16 ≤ length out.old }
+        ensures came { Came (state self.old) (state self.old).held (requested_by self.old.address (state self.old).head self.old.sockets (read_body body.now)) (answered_of result) (take (count result) out.new) (state self.new) }
+        ensures untouched { drop (count result) out.new ≡ drop (count result) out.old }
     {
-        let request = read(body)?;
-        Ok(self.serve(request))
+        match read(body) {
+            Ok(request) => Ok(self.serve(request, out)),
+            Err(fault) => Err(Fault {
+                cause: Cause::Packet(fault),
+                sent: self.send(Reply::Error(0, Problem::Syntax), out),
+            }),
+        }
     }
 
-    /// A whole packet, by the first rule of the ring that it meets: what it has the end send, or what
-    /// is wrong with its body.
-    pub(crate) fn meet(&mut self, packet: &Packet) -> Result<Bytes, PacketFault>
-        ensures { Meets (state self.old) (met_by self.old.address (state self.old).head self.old.sockets (bytes_of packet.now) (rule_of self.old.address (bytes_of packet.now))) result (state self.new) }
+    /// A whole packet, by the first rule of the ring that it meets: what it sends, or what is wrong with its body.
+    /// Most bytes make none whole, so that this is kept apart from what every byte does.
+    #[inline(never)]
+    pub(crate) fn meet(&mut self, packet: &Packet, out: &mut [u8]) -> Result<usize, Fault>
+        requires { 16 ≤ length out.old }
+        ensures came { Came (state self.old) (state self.old).held (met_by self.old.address (state self.old).head self.old.sockets (bytes_of packet.now) (rule_of self.old.address (bytes_of packet.now))) (answered_of result) (take (count result) out.new) (state self.new) }
+        ensures untouched { drop (count result) out.new ≡ drop (count result) out.old }
     {
         match Rule::of(self.address, packet) {
-            Rule::TakenOff => Ok(Bytes::new()),
+            Rule::TakenOff => Ok(0),
             Rule::AddressSet(w) => {
                 self.clear();
                 self.address = w;
-                Ok(Bytes::try_from([0x88, 0x30, w + 1, 0xff].as_slice()).unwrap())
+                Ok(put(&[0x88, 0x30, w + 1, 0xff], out))
             }
             Rule::ClearedForAll => {
                 self.clear();
-                Ok(Bytes::from(*packet))
+                Ok(put(packet.bytes(), out))
             }
-            Rule::SentOn => Ok(Bytes::from(*packet)),
+            Rule::SentOn => Ok(put(packet.bytes(), out)),
             Rule::Cleared => {
                 self.clear();
-                Ok(self.reply(Reply::Completion(0)))
+                Ok(self.send(Reply::Completion(0), out))
             }
-            Rule::Cancelled(number) => Ok(self.cancel(number)),
-            Rule::Requested => self.request(packet.body()),
+            Rule::Cancelled(number) => Ok(self.cancel(number, out)),
+            Rule::Requested => self.request(packet.body(), out),
         }
     }
 }

@@ -18,11 +18,13 @@ pub(crate) fn both(first: Bytes, second: Bytes) -> Bytes
 }
 
 /// Puts the bytes at the front of the buffer and tells their count.
-pub(crate) fn put(bytes: Bytes, out: &mut [u8]) -> usize
-    requires { 16 ≤ length out.old }
-    ensures count { result ≡ length bytes }
-    ensures front { take result out.new ≡ bytes }
+#[inline]
+pub(crate) fn put(bytes: &[u8], out: &mut [u8]) -> usize
+    requires few { length bytes.now ≤ 16 }
+    requires room { 16 ≤ length out.old }
+    ensures count { result ≡ length bytes.now }
+    ensures front { take result out.new ≡ bytes.now }
     ensures untouched { drop result out.new ≡ drop result out.old }
 {
-    send_at(out, 0, bytes.as_slice()).unwrap()
+    send_at(out, 0, bytes).unwrap()
 }

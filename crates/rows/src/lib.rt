@@ -18,7 +18,7 @@ mod table;
 pub mod tried;
 mod words;
 
-pub use answers::{answer, answered};
+pub use answers::answer;
 pub use codes::Codes;
 pub use commands::{COMMANDS, CommandRow, read_command};
 pub use fault::{PacketFault, RowFault};

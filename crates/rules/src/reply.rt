@@ -1,9 +1,10 @@
 //! What an end says of itself, as packets: a header, one or two bytes, and FF.
 
-ghost use Rattle.std.specs.Prelude.{◌≡◌, ◌≤◌, length};
+ghost use Rattle.std.specs.Prelude.{◌≡◌, ◌≤◌, length, if◌then◌else◌, Some, None, nat_le};
 ghost use Rattle.rules.specs.Replies.{code_of, packet};
+ghost use Rattle.wire.specs.Line.{over_at};
 
-use wire::Bytes;
+use wire::{Bytes, send_at};
 
 /// What is wrong, by VISCA's code.
 #[derive(Clone, Copy, PartialEq, Eq, Debug)]
@@ -31,14 +32,6 @@ pub enum Reply {
     Error(u8, Problem),
 }
 
-// A few bytes, for which there is room.
-fn bytes(few: &[u8]) -> Bytes
-    requires { length few.now ≤ 16 }
-    ensures { result ≡ few.now }
-{
-    Bytes::try_from(few).unwrap()
-}
-
 impl Problem {
     /// The code on the line.
     pub fn code(self) -> u8
@@ -53,10 +46,24 @@ impl Reply {
     pub fn packet(self, header: u8) -> Bytes
         ensures { result ≡ packet header self }
     {
+        let mut room = [0; 4];
+        let count = self.send(header, &mut room).unwrap();
+        Bytes::try_from(&room[..count]).unwrap()
+    }
+
+    /// Puts the reply's packet at the front of a buffer, and tells its length; a buffer that is too short for it is
+    /// left as it is.
+    #[inline]
+    pub fn send(self, header: u8, out: &mut [u8]) -> Option<usize>
+        ensures next { result ≡ (if nat_le (length (packet header self)) (length out.old) then Some (length (packet header self)) else None) }
+        ensures sent { out.new ≡ (if nat_le (length (packet header self)) (length out.old) then over_at 0 (packet header self) out.old else out.old) }
+    {
         match self {
-            Reply::Acknowledgement(y) => bytes(&[header, 0x40 + y % 16, 0xff]),
-            Reply::Completion(y) => bytes(&[header, 0x50 + y % 16, 0xff]),
-            Reply::Error(y, problem) => bytes(&[header, 0x60 + y % 16, problem.code(), 0xff]),
+            Reply::Acknowledgement(y) => send_at(out, 0, &[header, 0x40 + y % 16, 0xff]),
+            Reply::Completion(y) => send_at(out, 0, &[header, 0x50 + y % 16, 0xff]),
+            Reply::Error(y, problem) => {
+                send_at(out, 0, &[header, 0x60 + y % 16, problem.code(), 0xff])
+            }
         }
     }
 }
