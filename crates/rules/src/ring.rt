@@ -25,12 +25,15 @@ pub enum Rule {
     Requested,
 }
 
+// The header of packets for every end.
+const FOR_ALL: u8 = 0x88;
+
 // The address that a packet sets, from 1 to 7.
 fn address_in(bytes: &[u8]) -> Option<u8>
     ensures { result ≡ address_set bytes.now }
 {
     match bytes {
-        [0x88, 0x30, w @ 1..=7, 0xff] => Some(*w),
+        [FOR_ALL, 0x30, w @ 1..=7, 0xff] => Some(*w),
         _ => None,
     }
 }
@@ -38,7 +41,7 @@ fn address_in(bytes: &[u8]) -> Option<u8>
 fn is_clear_for_all(bytes: &[u8]) -> bool
     ensures { result ≡ clears_all bytes.now }
 {
-    matches!(bytes, [0x88, 0x01, 0x00, 0x01, 0xff])
+    matches!(bytes, [FOR_ALL, 0x01, 0x00, 0x01, 0xff])
 }
 
 impl Rule {
@@ -55,6 +58,7 @@ impl Rule {
 
     /// The first rule that a whole packet meets at an end with this address, 0 for none yet.
     /// (A number and no `Option`, as headers have it.)
+    #[inline(always)]
     pub fn of(address: u8, packet: &Packet) -> Rule
         ensures first { result ≡ rule_of address (bytes_of packet.now) }
         ensures bounded { Bounded result }
@@ -63,13 +67,15 @@ impl Rule {
         if address != 0 && header / 16 % 8 == address {
             return Rule::TakenOff;
         }
-        if let Some(w) = address_in(packet.bytes()) {
-            return Rule::AddressSet(w);
+        if header == FOR_ALL {
+            if let Some(w) = address_in(packet.bytes()) {
+                return Rule::AddressSet(w);
+            }
+            if is_clear_for_all(packet.bytes()) {
+                return Rule::ClearedForAll;
+            }
         }
-        if is_clear_for_all(packet.bytes()) {
-            return Rule::ClearedForAll;
-        }
-        if address == 0 || u16::from(header) != 0x80 + u16::from(address) {
+        if address == 0 || header - 0x80 != address {
             return Rule::SentOn;
         }
         Rule::of_body(packet.body())
