@@ -31,13 +31,13 @@ impl Framer {
             }
             (State::Idle, _) => Err(FramingFault::NoHeader),
             (State::Begun(begun), 0xff) => {
-                let only_header = begun.len() == 1;
+                if begun.len() == 1 {
+                    self.state = State::Idle;
+                    return Err(FramingFault::NoBody);
+                }
                 begun.push(byte);
                 let bytes = *begun;
                 self.state = State::Idle;
-                if only_header {
-                    return Err(FramingFault::NoBody);
-                }
                 Ok(Some(Packet { bytes }))
             }
             (State::Begun(bytes), _) => {

@@ -20,12 +20,12 @@ use std::marker::Model;
 /// ```
 ///
 /// Idle: no packet is begun. Begun: the bytes so far are kept. Skipping: the rest of a packet that
-/// is too long is let go by, its FF too.
+/// is too long is let go by, its FF too. (Begun stands last, since the compiler asks for the last first.)
 #[derive(Clone, Copy, Debug, PartialEq, Eq)]
 pub(crate) enum State {
     Idle,
-    Begun(Bytes),
     Skipping,
+    Begun(Bytes),
 }
 
 /// What is wrong with a byte; the packet that it belongs to is dropped.
