@@ -22,7 +22,7 @@ pub use by_name::value;
 pub use order::{Order, Paces};
 pub use outcome::{Ending, Endings, Refusal};
 pub use setting::{Axis, NoSuchSetting, Range, Setting};
-pub use settings::{OutOfRange, Settings};
+pub use settings::{Admitted, OutOfRange, Settings};
 pub use start::admit;
 pub use target::{Target, Targets};
 pub use traits::{Head, Look};

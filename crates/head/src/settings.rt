@@ -20,6 +20,14 @@ impl fmt::Display for OutOfRange {
 
 impl Error for OutOfRange {}
 
+/// A setting and a value of its range; no value of this type is otherwise.
+#[derive(Clone, Copy, Debug, PartialEq, Eq)]
+pub struct Admitted {
+    pub setting: Setting,
+    pub value: i32,
+    ghost fits: { in_range setting value ≡ true },
+}
+
 /// A value in range for each of the 22 settings.
 #[derive(Clone, Copy, Debug, PartialEq, Eq)]
 pub struct Settings {
@@ -55,7 +63,15 @@ impl Settings {
         if !setting.admits(value) {
             return Err(OutOfRange);
         }
-        self.values[usize::from(setting.number())] = value;
+        self.put(Admitted { setting, value });
         Ok(())
+    }
+
+    /// Gives a setting a value that it is known to admit.
+    pub fn put(&mut self, admitted: Admitted)
+        ensures { (s : S) → value_in self.new.values s ≡ (if same s admitted.setting then admitted.value else value_in self.old.values s) }
+    {
+        let at = usize::from(admitted.setting.number());
+        self.values[at] = admitted.value;
     }
 }

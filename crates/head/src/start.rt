@@ -8,6 +8,7 @@ use crate::outcome::Refusal;
 
 /// Turns an order down for a slot with the first reason that fits, by whether there is pan and
 /// tilt and by the orders that the two slots hold.
+#[inline(always)]
 pub fn admit(
     pan_tilt: bool,
     one: Option<&Order>,
@@ -18,11 +19,23 @@ pub fn admit(
     ensures { answered result ≡ reason pan_tilt (lent one.entry) (lent two.entry) slot order.now }
 {
     // A number, as a head is asked for it: the first reason is that there is no such slot.
-    let (own, other) = match slot {
-        1 => (one, two),
-        2 => (two, one),
-        _ => return Err(Refusal::NoSuchSlot),
-    };
+    match slot {
+        1 => admit_beside(pan_tilt, one, two, order),
+        2 => admit_beside(pan_tilt, two, one, order),
+        _ => Err(Refusal::NoSuchSlot),
+    }
+}
+
+// The same for a slot that there is, by the orders that it and the other slot hold.
+#[inline(always)]
+fn admit_beside(
+    pan_tilt: bool,
+    own: Option<&Order>,
+    other: Option<&Order>,
+    order: &Order,
+) -> Result<(), Refusal>
+    ensures { answered result ≡ reason pan_tilt (lent own.entry) (lent other.entry) 1 order.now }
+{
     if own.is_some() {
         Err(Refusal::SlotBusy)
     } else if !order.targets.in_range() {

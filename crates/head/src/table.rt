@@ -1,6 +1,6 @@
 //! The table of settings: the number of each, its range, and the axes.
 
-ghost use Rattle.std.specs.Prelude.{◌≡◌, ◌<◌};
+ghost use Rattle.std.specs.Prelude.{◌≡◌, ◌<◌, is_some};
 ghost use Rattle.std.specs.Option.{ok_or};
 ghost use Rattle.head.specs.Settings.{about, number as number_of, numbered, within, in_range, position as position_of, drive as drive_of};
 
@@ -86,6 +86,16 @@ impl Setting {
             Setting::Freeze | Setting::Mute | Setting::Infrared => 3,
             _ => 0,
         }
+    }
+
+    /// Whether this is the position of an axis.
+    pub fn is_position(self) -> bool
+        ensures { result ≡ is_some (about self).axis }
+    {
+        self == Setting::Zoom
+            || self == Setting::Focus
+            || self == Setting::Pan
+            || self == Setting::Tilt
     }
 
     /// The axis whose position this is.
