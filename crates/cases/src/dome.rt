@@ -32,7 +32,7 @@ fn steps(rt: HostRuntime) -> Result<(), Fail> {
             value: target,
         }]);
         let order = order_of(targets, paces)?;
-        assert!(rt; dome.start(1, order).is_ok());
+        assert!(rt; dome.start(1, &order).is_ok());
         assert_eq!(rt; dome.ticks_left(1), ticks);
         let mut last = dome.tick();
         assert_eq!(rt; dome.look(setting.number()), Some(first));
@@ -71,7 +71,7 @@ fn drives(rt: HostRuntime) -> Result<(), Fail> {
         let order = order_of(targets, paces)?;
         let mut dome = Dome::new(false);
         let mut stalled = Dome::new(true);
-        assert!(rt; dome.start(2, order).is_ok() && stalled.start(2, order).is_ok());
+        assert!(rt; dome.start(2, &order).is_ok() && stalled.start(2, &order).is_ok());
         // The drive has its value once the order is done, and moves from the next tick on.
         assert_eq!(rt; dome.tick().two, Some(Ending::Done));
         assert_eq!(rt; stalled.tick().two, Some(Ending::Done));
@@ -101,7 +101,7 @@ fn a_stalled_dome_jams(rt: HostRuntime) -> Result<(), Fail> {
     };
     let order = order_of(Targets::Two([zoom, mute]), paces)?;
     let mut dome = Dome::new(true);
-    assert!(rt; dome.start(1, order).is_ok());
+    assert!(rt; dome.start(1, &order).is_ok());
     assert!(rt; dome.tick().one.is_none());
     assert_eq!(rt; dome.tick().one, Some(Ending::Jammed));
     assert!(rt; dome.look(1) == Some(0) && dome.look(15) == Some(3));
@@ -110,7 +110,7 @@ fn a_stalled_dome_jams(rt: HostRuntime) -> Result<(), Fail> {
         value: 0,
     };
     let order = order_of(Targets::Two([home, mute]), paces)?;
-    assert!(rt; dome.start(1, order).is_ok());
+    assert!(rt; dome.start(1, &order).is_ok());
     assert_eq!(rt; dome.tick().one, Some(Ending::Done));
     assert_eq!(rt; dome.look(15), Some(2));
     Ok(())

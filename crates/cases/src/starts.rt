@@ -43,8 +43,8 @@ fn reasons(rt: HostRuntime) -> Result<(), Fail> {
     let mut dome = Dome::new(false);
     for (slot, setting, value, by_block, by_dome) in ROWS {
         let order = order_of(Targets::One([to(setting, value)]), paces())?;
-        assert_eq!(rt; number(block.start(slot, order)), by_block);
-        assert_eq!(rt; number(dome.start(slot, order)), by_dome);
+        assert_eq!(rt; number(block.start(slot, &order)), by_block);
+        assert_eq!(rt; number(dome.start(slot, &order)), by_dome);
     }
     assert!(rt; block.ticks_left(1) == 0 && block.ticks_left(2) == 1 && block.ticks_left(3) == 0);
     assert!(rt; dome.ticks_left(1) == 80 && dome.ticks_left(2) == 1 && dome.ticks_left(0) == 0);
@@ -69,7 +69,7 @@ fn a_setting_named_twice_is_no_order(rt: HostRuntime) {
 fn a_dropped_slot_moves_nothing(rt: HostRuntime) -> Result<(), Fail> {
     let mut dome = Dome::new(false);
     let order = order_of(Targets::One([to(Setting::Tilt, 100)]), paces())?;
-    assert_eq!(rt; number(dome.start(2, order)), 0);
+    assert_eq!(rt; number(dome.start(2, &order)), 0);
     dome.drop_slot(1);
     dome.drop_slot(7);
     assert_eq!(rt; dome.ticks_left(2), 2);

@@ -34,7 +34,7 @@ fn zoom(head: &Wild) -> i32 {
 
 // Zooms a fresh head in, and follows it to the end of the order.
 fn follow(rt: &impl Abort, head: &mut Wild, seen: &mut Seen) -> Result<(), Fail> {
-    assert!(rt; head.start(1, to(Setting::Zoom, 0x4000)?).is_ok());
+    assert!(rt; head.start(1, &to(Setting::Zoom, 0x4000)?).is_ok());
     let ticks = head.ticks_left(1);
     assert!(rt; (1..=1000).contains(&ticks));
     let mut at = zoom(head);
@@ -91,9 +91,9 @@ fn a_head_has_pan_and_tilt_or_not(rt: HostRuntime) -> Result<(), Fail> {
     let mut with = Wild::new(1, true);
     let mut without = Wild::new(1, false);
     assert!(rt; with.has_pan_tilt() && !without.has_pan_tilt());
-    assert_eq!(rt; with.start(2, order), Ok(()));
-    assert_eq!(rt; without.start(2, order), Err(Refusal::NoPanTilt));
-    assert_eq!(rt; with.start(1, order), Err(Refusal::SettingInUse));
+    assert_eq!(rt; with.start(2, &order), Ok(()));
+    assert_eq!(rt; without.start(2, &order), Err(Refusal::NoPanTilt));
+    assert_eq!(rt; with.start(1, &order), Err(Refusal::SettingInUse));
     with.drop_slot(2);
     assert_eq!(rt; with.ticks_left(2), 0);
     assert_eq!(rt; with.look(18), Some(0));

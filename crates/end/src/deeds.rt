@@ -33,7 +33,7 @@ impl<H: Head> End<H> {
     {
         // The head never turns it down: rows admit only targets in range, the slot of a closed socket
         // is idle, and an order that shares a setting was dropped before.
-        let _ = self.head.start(which.number(), order);
+        let _ = self.head.start(which.number(), &order);
         self.sockets.set(which, Some(order));
     }
 

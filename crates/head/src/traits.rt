@@ -42,8 +42,8 @@ pub trait Head: Look {
 
     /// Has the slot hold the order, for ticks that the head chooses from 1 to 1,000; or turns the
     /// order down, with the first reason that fits, and leaves the head as it was.
-    fn start(&mut self, slot: u8, order: Order) -> Result<(), Refusal>
-        ensures { Started (view Self.Look.setting Self.Look.pantilt slots self.old) slot order (answered result) (view Self.Look.setting Self.Look.pantilt slots self.new) };
+    fn start(&mut self, slot: u8, order: &Order) -> Result<(), Refusal>
+        ensures { Started (view Self.Look.setting Self.Look.pantilt slots self.old) slot order.now (answered result) (view Self.Look.setting Self.Look.pantilt slots self.new) };
 
     /// Goes on with both orders and tells which ended, and how.
     fn tick(&mut self) -> Endings

@@ -1,8 +1,10 @@
 -- What a tick writes, one setting after the other.
-use Rattle.std.proofs.Common.{◌≡◌, ◌≤◌, Bool, true, false, cond, ◌&&◌, List, [], ◌∷◌, length, take, drop, ◌-◌, get_or, ℤ, Some, None, Option, refl, ap, ◌∙◌, sym, subst, is_some, inl, inr, arith, is_none}
-use Rattle.std.proofs.lemmas.Bool.{and_parts, and_right, cases_Bool}
-use Rattle.std.proofs.lemmas.List.{take_all}
-use Rattle.std.specs.Option.{option_map}
+use Rattle.std.proofs.Common.{◌≡◌, ◌≤◌, Bool, true, false, cond, ◌&&◌, List, [], ◌∷◌, ◌++◌, ℕ, ◌+◌, length, take, ◌-◌, get_or, ℤ, Some, None, Option, refl, ap, ◌∙◌, sym, subst, is_some, inl, inr, arith, is_none}
+use Rattle.std.proofs.lemmas.Bool.{and_parts, and_right, cases_Bool, or_parts}
+use Rattle.std.proofs.Math.Seq.{take-length}
+use Rattle.std.proofs.lemmas.List.{take_more}
+use Rattle.std.specs.List.{list_any}
+use Rattle.std.specs.Option.{option_map, option_map_or}
 use Rattle.head.specs.declared.outcome.Ending.{Ending}
 use Rattle.head.specs.declared.outcome.Endings.{Endings}
 use Rattle.head.specs.declared.setting.Axis.{Axis}
@@ -14,17 +16,12 @@ use Rattle.head.specs.Meaning.{Slot, idle, busy, Slots, wanted}
 use Rattle.head.specs.Orders.{parts, wants, all_in_range}
 use Rattle.head.specs.Settings.{about, same, position, in_range}
 use Rattle.head.proofs.Apart.{Apart}
-use Rattle.head.proofs.Apart.{Apart}
 use Rattle.head.proofs.Tables.{same_is}
+use Rattle.heads.specs.declared.job.Job.{Job}
 use Rattle.heads.specs.declared.motion.Motion.{Motion}
 use Rattle.heads.specs.declared.rig.Rig.{Rig}
-use Rattle.heads.specs.Exact.{is_done, pulled, unnamed, or_else, next}
+use Rattle.heads.specs.Exact.{slot_of, is_done, pulled, unnamed, or_else, next}
 use Rattle.heads.specs.Rigs.{slots_of, given, closed, or, ordered, followed}
-
--- a value that is taken is the setting's
-pub written : (x : Setting) (taken : Bool) (w : ℤ) (old new g : Setting → ℤ) → taken ≡ true → w ≡ g x
-    → ((s : Setting) → new s ≡ cond (taken && same s x) w (old s)) → (s : Setting) → new s ≡ cond (same s x) (g s) (old s)
-written x taken w old new g t v is s = grind (arith, same_is s x, is s)
 
 same_sym : (s z : Setting) → same s z ≡ same z s
 same_sym s z = grind (arith, same_is s z, same_is z s)
@@ -88,8 +85,8 @@ ordered_next m b e f s t h = by (pulled m b.one e.one s (f s)) (pulled m b.two e
 
 -- positions moved, and then the targets of each order that is done
 pub advanced_is : (m : Motion) (b : Slots) (e : Endings) (f : Setting → ℤ) (s : Setting) → Apart b.one b.two
-    → closed b.two e.two s (closed b.one e.one s (positions f (next m b e f) s)) ≡ next m b e f s
-advanced_is m b e f s apart = ap (λ (v : ℤ). closed b.two e.two s (closed b.one e.one s v)) (moves_all f (next m b e f) s) ∙ by (about s).axis refl
+    → closed b.two e.two s (closed b.one e.one s (cond (is_some (about s).axis) (next m b e f s) (f s))) ≡ next m b e f s
+advanced_is m b e f s apart = by (about s).axis refl
   where
     g : Setting → ℤ
     g = next m b e f
@@ -101,16 +98,70 @@ advanced_is m b e f s apart = ap (λ (v : ℤ). closed b.two e.two s (closed b.o
         ∙ sym (simp (pulls m b.one e.one s (f s) i, pulls m b.two e.two s (f s) i, i))
     by (Some a) i = ap (closed b.two e.two s) (stays b.one e.one s a (g s) i) ∙ stays b.two e.two s a (g s) i
 
--- the same of a list that has a first target
-pub given_at : (ts : List Target) (d : Target) (s : Setting) (v : ℤ) → 1 ≤ length ts →
-    given (about s).axis (wants ts s) v
-    ≡ cond (is_none (about (get_or ts 0 d).setting).axis && same s (get_or ts 0 d).setting) (get_or ts 0 d).value (given (about s).axis (wants (take (length ts - 1) (drop 1 ts)) s) v)
-given_at [] d s v l = absurd (omega arith)
-given_at (t ∷ ts) d s v l = simp (take_all (length (t ∷ ts) - 1) ts (omega arith)) (given_more t ts s v)
+-- targets of which none is of a position want none
+none_wanted : (ts : List Target) (s : Setting) (a : Axis) → list_any (λ t. is_some (about t.setting).axis) ts ≡ false → (about s).axis ≡ Some a → wants ts s ≡ None
+none_wanted [] s a h i = refl
+none_wanted (t ∷ ts) s a h i =
+    let (n, r) = or_parts (is_some (about t.setting).axis) (list_any (λ t. is_some (about t.setting).axis) ts) h in
+    elim (cases_Bool (same t.setting s)) [
+      | inl e ↦ let k = sym (ap (λ (z : Setting). is_some (about z).axis) (same_is t.setting s e) ∙ ap is_some i) ∙ n in cc
+      | inr e ↦ simp e (none_wanted ts s a r i)
+    ]
 
-pub first_in_range : (ts : List Target) (d : Target) → 1 ≤ length ts → all_in_range ts ≡ true → in_range (get_or ts 0 d).setting (get_or ts 0 d).value ≡ true
-first_in_range [] d l h = absurd (omega arith)
-first_in_range (t ∷ ts) d l h = (and_parts (in_range t.setting t.value) (all_in_range ts) h).0
+-- whether a slot's order names a position
+abbrev pub moving : Option Job → Bool
+moving j = option_map_or (λ j. list_any (λ t. is_some (about t.setting).axis) (parts j.order.targets)) j false
+
+none_pulled : (m : Motion) (j : Option Job) (e : Option Ending) (s : Setting) (a : Axis) (v : ℤ) → moving j ≡ false → (about s).axis ≡ Some a → pulled m (slot_of j) e s v ≡ None
+none_pulled m None e s a v h i = refl
+none_pulled m (Some j) e s a v h i = simp (none_wanted (parts j.order.targets) s a h i)
+
+-- where no order names a position, each goes as its drive has it
+pub drift_only : (r : Rig) (e : Endings) (f : Setting → ℤ) (s : Setting) → moving r.one ≡ false → moving r.two ≡ false
+    → unnamed r.motion (about s).axis f s ≡ cond (is_some (about s).axis) (next r.motion (slots_of r) e f s) (f s)
+drift_only r e f s h k = by (about s).axis refl
+  where
+    by : (x : Option Axis) → (about s).axis ≡ x → unnamed r.motion (about s).axis f s ≡ cond (is_some (about s).axis) (next r.motion (slots_of r) e f s) (f s)
+    by None i = simp i
+    by (Some a) i = simp (none_pulled r.motion r.one e.one s a (f s) h i, none_pulled r.motion r.two e.two s a (f s) k i, i) refl
+
+-- the last target's setting gets it first, unless it is a position
+given_push : (ts : List Target) (t : Target) (s : Setting) (v : ℤ) →
+    given (about s).axis (wants (ts ++ t ∷ []) s) v ≡ given (about s).axis (wants ts s) (cond (is_none (about t.setting).axis && same s t.setting) t.value v)
+given_push [] t s v =
+    given_more t [] s v ∙ ap (cond (is_none (about t.setting).axis && same s t.setting) t.value) (by (about s).axis v)
+    ∙ sym (by (about s).axis (cond (is_none (about t.setting).axis && same s t.setting) t.value v))
+  where
+    by : (x : Option Axis) (w : ℤ) → given x None w ≡ w
+    by None w = refl
+    by (Some a) w = refl
+given_push (u ∷ us) t s v =
+    given_more u (us ++ t ∷ []) s v ∙ ap (cond (is_none (about u.setting).axis && same s u.setting) u.value) (given_push us t s v)
+    ∙ sym (given_more u us s (cond (is_none (about t.setting).axis && same s t.setting) t.value v))
+
+in_range_push : (ts : List Target) (t : Target) → all_in_range (ts ++ t ∷ []) ≡ true → (all_in_range ts ≡ true) × (in_range t.setting t.value ≡ true)
+in_range_push [] t h = (refl, (and_parts (in_range t.setting t.value) true h).0)
+in_range_push (u ∷ us) t h =
+    let p = and_parts (in_range u.setting u.value) (all_in_range (us ++ t ∷ [])) h in
+    let q = in_range_push us t p.1 in
+    (grind (arith, p.0, q.0), q.1)
+
+-- the same of a list that has a last target
+last_apart : (ts : List Target) (d : Target) → 1 ≤ length ts → ts ≡ take (length ts - 1) ts ++ get_or ts (length ts - 1) d ∷ []
+last_apart ts d l =
+    let e : length ts - 1 + 1 ≡ length ts = omega arith in
+    sym (ap (λ (n : ℕ). take n ts) e ∙ take-length ts) ∙ take_more ts (length ts - 1) d (omega arith)
+
+pub given_last : (ts : List Target) (d : Target) (s : Setting) (v : ℤ) → 1 ≤ length ts →
+    given (about s).axis (wants ts s) v
+    ≡ given (about s).axis (wants (take (length ts - 1) ts) s) (cond (is_none (about (get_or ts (length ts - 1) d).setting).axis && same s (get_or ts (length ts - 1) d).setting) (get_or ts (length ts - 1) d).value v)
+given_last ts d s v l =
+    ap (λ (us : List Target). given (about s).axis (wants us s) v) (last_apart ts d l) ∙ given_push (take (length ts - 1) ts) (get_or ts (length ts - 1) d) s v
+
+pub in_range_last : (ts : List Target) (d : Target) → 1 ≤ length ts → all_in_range ts ≡ true
+    → (all_in_range (take (length ts - 1) ts) ≡ true) × (in_range (get_or ts (length ts - 1) d).setting (get_or ts (length ts - 1) d).value ≡ true)
+in_range_last ts d l h =
+    in_range_push (take (length ts - 1) ts) (get_or ts (length ts - 1) d) (ap all_in_range (sym (last_apart ts d l)) ∙ h)
 
 -- An axis after the other.
 
@@ -149,12 +200,12 @@ followed_same m b e a f g h s =
 
 pub follows : (m : Motion) (b : Slots) (e : Endings) (f z o p t : Setting → ℤ) → ((s : Setting) → z s ≡ followed m b e Zoom f s)
     → ((s : Setting) → o s ≡ followed m b e Focus z s) → ((s : Setting) → p s ≡ followed m b e Pan o s) → ((s : Setting) → t s ≡ followed m b e Tilt p s)
-    → (s : Setting) → t s ≡ positions f (next m b e f) s
+    → (s : Setting) → t s ≡ cond (is_some (about s).axis) (next m b e f s) (f s)
 follows m b e f z o p t hz ho hp ht s =
     let io : (s : Setting) → o s ≡ followed m b e Focus (followed m b e Zoom f) s = λ s. ho s ∙ followed_same m b e Focus z (followed m b e Zoom f) hz s in
     let ip : (s : Setting) → p s ≡ followed m b e Pan (followed m b e Focus (followed m b e Zoom f)) s =
     λ s. hp s ∙ followed_same m b e Pan o (followed m b e Focus (followed m b e Zoom f)) io s in
-    ht s ∙ followed_same m b e Tilt p (followed m b e Pan (followed m b e Focus (followed m b e Zoom f))) ip s ∙ apart_axes m b e f s
+    ht s ∙ followed_same m b e Tilt p (followed m b e Pan (followed m b e Focus (followed m b e Zoom f))) ip s ∙ apart_axes m b e f s ∙ moves_all f (next m b e f) s
 
 pub same_following : (r r' : Rig) (e : Endings) (a : Axis) (f : Setting → ℤ) (v : ℤ) (s : Setting) → r'.motion ≡ r.motion → r'.one ≡ r.one → r'.two ≡ r.two
     → v ≡ followed r'.motion (slots_of r') e a f s → v ≡ followed r.motion (slots_of r) e a f s

@@ -6,4 +6,5 @@ pub mod Lawful
 pub mod Rigs
 pub mod Punctual
 mod Given
+mod Once
 mod Idle

@@ -49,14 +49,16 @@ impl<G: Gear> Head for Geared<G> {
         self.rig.ticks_left(slot)
     }
 
-    fn start(&mut self, slot: u8, order: Order) -> Result<(), Refusal>
-        ensures started { Started (means G.PAN_TILT self.old.rig) slot order (answered result) (means G.PAN_TILT self.new.rig) }
-        ensures ticks { answered result ≡ 0 → slots_of self.new.rig ≡ put (slots_of self.old.rig) slot (busy order (G.ticks (value_of self.old.rig.settings) order)) }
+    #[inline(always)]
+    fn start(&mut self, slot: u8, order: &Order) -> Result<(), Refusal>
+        ensures started { Started (means G.PAN_TILT self.old.rig) slot order.now (answered result) (means G.PAN_TILT self.new.rig) }
+        ensures ticks { answered result ≡ 0 → slots_of self.new.rig ≡ put (slots_of self.old.rig) slot (busy order.now (G.ticks (value_of self.old.rig.settings) order.now)) }
         ensures gear { self.new.gear ≡ self.old.gear }
     {
         self.rig.start(G::PAN_TILT, slot, order)
     }
 
+    #[inline(always)]
     fn tick(&mut self) -> Endings
         ensures lawful { Ticked (means G.PAN_TILT self.old.rig) result (means G.PAN_TILT self.new.rig) }
         ensures exact { Ran (G.motion self.old.gear) (means G.PAN_TILT self.old.rig) result (means G.PAN_TILT self.new.rig) }

@@ -1,15 +1,24 @@
 //! Where a tick of our heads takes positions, and whether it takes them to their targets.
 
-ghost use Rattle.std.specs.Prelude.{◌≡◌, Some};
-ghost use Rattle.head.specs.Settings.{position, drive};
+ghost use Rattle.std.specs.Prelude.{◌≡◌, true, Some, is_some};
+ghost use Rattle.std.specs.List.{list_any};
+ghost use Rattle.std.specs.Option.{option_map_or};
+ghost use Rattle.head.specs.Settings.{about, position, drive};
 ghost use Rattle.head.specs.Values.{value_of};
 ghost use Rattle.heads.specs.Motion.{moved as moved_by, driven as driven_by};
 ghost use Rattle.heads.specs.Exact.{is_at};
-ghost use Rattle.heads.specs.Rigs.{arrives as arrives_by, all_arrive as all_arrive_by};
+ghost use Rattle.heads.specs.Rigs.{all_arrive as all_arrive_by};
 
 use crate::motion::{Motion, held, step, toward, unit};
 use crate::rig::Rig;
-use head::{Axis, Order, Paces};
+use head::{Axis, Order, Paces, Target};
+
+/// Whether a target is of a position.
+pub(crate) fn names_position(targets: &[Target]) -> bool
+    ensures { result ≡ list_any (λ t. is_some (about t.setting).axis) targets.now }
+{
+    targets.iter().any(|t| t.setting.is_position())
+}
 
 impl Rig {
     /// Where an order's tick takes the position of an axis.
@@ -48,19 +57,34 @@ impl Rig {
         self.moved(paces, axis, target) == target
     }
 
-    // Whether this tick takes the axis to its target, if the order names its position.
-    fn arrives(&self, order: &Order, axis: Axis) -> bool
-        ensures { result ≡ arrives_by self.now.motion order.now (value_of self.now.settings) axis }
+    // Whether this tick takes the position that a target is of to it, if it is a position's.
+    fn arrives(&self, paces: Paces, target: Target) -> bool
+        ensures { result ≡ option_map_or (λ a. is_at (moved_by self.now.motion paces a (value_of self.now.settings (position a)) target.value) (Some target.value)) (about target.setting).axis true }
     {
-        order
-            .target(axis.position())
-            .is_none_or(|target| self.reaches(order.paces, axis, target))
+        target
+            .setting
+            .axis()
+            .is_none_or(|axis| self.reaches(paces, axis, target.value))
     }
 
-    /// Whether this tick takes every position that the order names to its target.
+    // Whether this tick takes every position that the order names to its target.
+    #[inline(never)]
+    fn named_arrive(&self, order: &Order) -> bool
+        ensures { result ≡ all_arrive_by self.now.motion order.now (value_of self.now.settings) }
+    {
+        // No setting is named twice, so each axis is met at most once.
+        let targets = order.targets.as_slice();
+        targets.iter().all(|t| self.arrives(order.paces, *t))
+    }
+
+    /// The same, with less to do for most orders: they name no position.
     pub(crate) fn all_arrive(&self, order: &Order) -> bool
         ensures { result ≡ all_arrive_by self.now.motion order.now (value_of self.now.settings) }
     {
-        Axis::ALL.iter().all(|axis| self.arrives(order, *axis))
+        if names_position(order.targets.as_slice()) {
+            self.named_arrive(order)
+        } else {
+            true
+        }
     }
 }

@@ -50,6 +50,7 @@ impl Rig {
     }
 
     // Turns an order down with the first reason against it.
+    #[inline(always)]
     fn admit(&self, pan_tilt: bool, slot: u8, order: &Order) -> Result<(), Refusal>
         ensures { answered result ≡ refusal (means pan_tilt self.now) slot order.now }
     {
@@ -59,18 +60,24 @@ impl Rig {
     }
 
     /// Starts an order in a slot, or turns it down.
-    pub(crate) fn start(&mut self, pan_tilt: bool, slot: u8, order: Order) -> Result<(), Refusal>
-        ensures started { Started (means pan_tilt self.old) slot order (answered result) (means pan_tilt self.new) }
-        ensures ticks { answered result ≡ 0 → slots_of self.new ≡ put (slots_of self.old) slot (busy order (ticks_of self.old.motion (value_of self.old.settings) order)) }
+    #[inline(always)]
+    pub(crate) fn start(&mut self, pan_tilt: bool, slot: u8, order: &Order) -> Result<(), Refusal>
+        ensures started { Started (means pan_tilt self.old) slot order.now (answered result) (means pan_tilt self.new) }
+        ensures ticks { answered result ≡ 0 → slots_of self.new ≡ put (slots_of self.old) slot (busy order.now (ticks_of self.old.motion (value_of self.old.settings) order.now)) }
         ensures motion { self.new.motion ≡ self.old.motion }
     {
-        self.admit(pan_tilt, slot, &order)?;
-        let left = self.ticks(&order) as u16;
-        let job = Some(Job { order, left });
+        self.admit(pan_tilt, slot, order)?;
+        let left = self.ticks(order) as u16;
         if slot == 1 {
-            self.one = job;
+            self.one = Some(Job {
+                order: *order,
+                left,
+            });
         } else {
-            self.two = job;
+            self.two = Some(Job {
+                order: *order,
+                left,
+            });
         }
         Ok(())
     }

@@ -1,28 +1,37 @@
 //! A tick of our heads: how each order ends, and where each setting goes.
 
-ghost use Rattle.std.specs.Prelude.{◌≡◌, Bool, true, if◌then◌else◌};
+ghost use Rattle.std.specs.Prelude.{◌≡◌, Bool, true, false, cond, is_some};
+ghost use Rattle.std.specs.List.{list_any};
+ghost use Rattle.std.specs.Option.{option_map_or};
 ghost use Rattle.head.specs.declared.setting.Setting.{Setting as S};
 ghost use Rattle.head.specs.Meaning.{rest};
 ghost use Rattle.head.specs.Orders.{parts, wants, all_in_range};
 ghost use Rattle.head.specs.Settings.{about, position, same};
 ghost use Rattle.head.specs.Values.{value_of};
-ghost use Rattle.heads.specs.Exact.{slot_of, pulled as pulled_by, next as next_by, Ran};
+ghost use Rattle.heads.specs.Exact.{slot_of, pulled as pulled_by, next as next_by, unnamed, Ran};
 ghost use Rattle.heads.specs.Rigs.{means, slots_of, foretold, given, closed, drifted, ordered as ordered_by, followed as followed_by};
 
 use crate::job::Job;
+use crate::motion::Motion;
+use crate::positions::names_position;
 use crate::rig::Rig;
-use head::{Axis, Ending, Endings, Setting, Settings, Target};
+use head::{Admitted, Axis, Ending, Endings, Setting, Settings, Target};
 
-// Gives settings their targets, but for positions, which move.
+// Gives settings their targets, but for positions, which move. From the last target to the first, so
+// that of two for a setting the first stays.
 fn give(settings: &mut Settings, targets: &[Target])
     requires { all_in_range targets.now ≡ true }
     ensures { (s : S) → value_of settings.new s ≡ given (about s).axis (wants targets.now s) (value_of settings.old s) }
 {
-    if let [first, rest @ ..] = targets {
-        give(settings, rest);
-        if first.setting.axis().is_none() {
-            let _ = settings.set(first.setting, first.value);
+    let mut left = targets;
+    while let [rest @ .., last] = left {
+        if last.setting.axis().is_none() {
+            settings.put(Admitted {
+                setting: last.setting,
+                value: last.value,
+            });
         }
+        left = rest;
     }
 }
 
@@ -30,8 +39,18 @@ fn give(settings: &mut Settings, targets: &[Target])
 fn close(settings: &mut Settings, job: &Option<Job>, ending: Option<Ending>)
     ensures { (s : S) → value_of settings.new s ≡ closed (slot_of job.now) ending s (value_of settings.old s) }
 {
-    if let (Some(job), Some(Ending::Done)) = (job, ending) {
+    if let (Some(Ending::Done), Some(job)) = (ending, job) {
         give(settings, job.order.targets.as_slice());
+    }
+}
+
+// Whether a slot's order names a position.
+fn moves(job: &Option<Job>) -> bool
+    ensures { result ≡ option_map_or (λ j. list_any (λ t. is_some (about t.setting).axis) (parts j.order.targets)) job.now false }
+{
+    match job {
+        None => false,
+        Some(job) => names_position(job.order.targets.as_slice()),
     }
 }
 
@@ -82,9 +101,9 @@ impl Rig {
         ensures rest { (self.new.motion ≡ self.old.motion) × (self.new.one ≡ self.old.one) × (self.new.two ≡ self.old.two) }
     {
         if self.settings.get(axis.drive()) != 0 {
-            let to = self.driven(axis);
-            // It is never out of range, so nothing is lost.
-            let _ = self.settings.set(axis.position(), to);
+            let setting = axis.position();
+            let value = self.driven(axis);
+            self.settings.put(Admitted { setting, value });
         }
     }
 
@@ -103,11 +122,48 @@ impl Rig {
     {
         let setting = axis.position();
         match self.ordered(endings, setting) {
-            Some(to) => {
-                // It is never out of range, so nothing is lost.
-                let _ = self.settings.set(setting, to);
-            }
+            Some(value) => self.settings.put(Admitted { setting, value }),
             None => self.drift(axis),
+        }
+    }
+
+    // Moves each position as an order has it that names it, or by its drive.
+    fn follow_all(&mut self, endings: Endings)
+        ensures values { (s : S) → value_of self.new.settings s ≡ cond (is_some (about s).axis) (next_by self.old.motion (slots_of self.old) endings (value_of self.old.settings) s) (value_of self.old.settings s) }
+        ensures rest { (self.new.motion ≡ self.old.motion) × (self.new.one ≡ self.old.one) × (self.new.two ≡ self.old.two) }
+    {
+        self.follow(endings, Axis::Zoom);
+        self.follow(endings, Axis::Focus);
+        self.follow(endings, Axis::Pan);
+        self.follow(endings, Axis::Tilt);
+    }
+
+    // Moves each position by its drive, where no order names one.
+    #[inline(always)]
+    fn drift_all(&mut self)
+        ensures values { (s : S) → value_of self.new.settings s ≡ unnamed self.old.motion (about s).axis (value_of self.old.settings) s }
+        ensures rest { (self.new.motion ≡ self.old.motion) × (self.new.one ≡ self.old.one) × (self.new.two ≡ self.old.two) }
+    {
+        self.drift(Axis::Zoom);
+        self.drift(Axis::Focus);
+        self.drift(Axis::Pan);
+        self.drift(Axis::Tilt);
+    }
+
+    // Takes the positions to where they are after this tick.
+    fn move_positions(&mut self, endings: Endings)
+        ensures values { (s : S) → value_of self.new.settings s ≡ cond (is_some (about s).axis) (next_by self.old.motion (slots_of self.old) endings (value_of self.old.settings) s) (value_of self.old.settings s) }
+        ensures rest { (self.new.motion ≡ self.old.motion) × (self.new.one ≡ self.old.one) × (self.new.two ≡ self.old.two) }
+    {
+        // A stalled head moves nothing, whatever its orders name and its drives say.
+        if self.motion == Motion::Stalled {
+            return;
+        }
+        // Where no order names a position, none is looked for at each axis.
+        if moves(&self.one) || moves(&self.two) {
+            self.follow_all(endings);
+        } else {
+            self.drift_all();
         }
     }
 
@@ -116,10 +172,7 @@ impl Rig {
         ensures values { (s : S) → value_of self.new.settings s ≡ next_by self.old.motion (slots_of self.old) endings (value_of self.old.settings) s }
         ensures rest { (self.new.motion ≡ self.old.motion) × (self.new.one ≡ self.old.one) × (self.new.two ≡ self.old.two) }
     {
-        self.follow(endings, Axis::Zoom);
-        self.follow(endings, Axis::Focus);
-        self.follow(endings, Axis::Pan);
-        self.follow(endings, Axis::Tilt);
+        self.move_positions(endings);
         close(&mut self.settings, &self.one, endings.one);
         close(&mut self.settings, &self.two, endings.two);
     }
@@ -140,6 +193,7 @@ impl Rig {
     }
 
     /// One tick: both orders go on, those with their last tick end, and settings follow.
+    #[inline(always)]
     pub(crate) fn tick(&mut self) -> Endings
         ensures ran { (p : Bool) → Ran self.old.motion (means p self.old) result (means p self.new) }
         ensures motion { self.new.motion ≡ self.old.motion }
@@ -147,10 +201,7 @@ impl Rig {
         if self.one.is_some() || self.two.is_some() {
             return self.work();
         }
-        self.drift(Axis::Zoom);
-        self.drift(Axis::Focus);
-        self.drift(Axis::Pan);
-        self.drift(Axis::Tilt);
+        self.drift_all();
         Endings {
             one: None,
             two: None,

@@ -1,14 +1,16 @@
 //! How many ticks an order takes.
 
 ghost use Rattle.std.specs.Prelude.{◌≡◌, ◌≤◌, Some};
-ghost use Rattle.head.specs.Settings.{position};
+ghost use Rattle.std.specs.Option.{option_map_or};
+ghost use Rattle.head.specs.Settings.{about, position};
 ghost use Rattle.head.specs.Values.{value_of};
 ghost use Rattle.heads.specs.Motion.{step as step_of};
-ghost use Rattle.heads.specs.Exact.{ticks_to as ticks_to_target, ticks_on as ticks_on_axis, ticks_of};
+ghost use Rattle.heads.specs.Exact.{ticks_to as ticks_to_target, longest as longest_of, ticks_of};
 
 use crate::motion::{Motion, step};
+use crate::positions::names_position;
 use crate::rig::Rig;
-use head::{Axis, Order, Paces};
+use head::{Axis, Order, Paces, Target};
 
 impl Rig {
     // The ticks that an order with these paces takes on one axis.
@@ -19,25 +21,41 @@ impl Rig {
         distance.div_ceil(u32::from(step(paces, axis)))
     }
 
-    // The ticks that the order takes on one axis, 0 if it does not name its position.
-    fn ticks_on(&self, order: &Order, axis: Axis) -> u32
-        ensures { result ≡ ticks_on_axis (value_of self.now.settings) order.now axis }
+    // The ticks that an order with these paces takes for one of its targets, 0 if that is of no position.
+    fn ticks_for(&self, paces: Paces, target: Target) -> u32
+        ensures { result ≡ option_map_or (λ a. ticks_to_target (step_of paces a) (value_of self.now.settings (position a)) (Some target.value)) (about target.setting).axis 0 }
     {
-        order
-            .target(axis.position())
-            .map_or(0, |target| self.ticks_to(order.paces, axis, target))
+        target
+            .setting
+            .axis()
+            .map_or(0, |axis| self.ticks_to(paces, axis, target.value))
+    }
+
+    // The most ticks of the positions that the order names, and at least 1.
+    #[inline(always)]
+    fn longest(&self, order: &Order) -> u32
+        ensures { result ≡ longest_of (value_of self.now.settings) order.now }
+    {
+        let targets = order.targets.as_slice();
+        // Most orders name no position.
+        if !names_position(targets) {
+            return 1;
+        }
+        // No setting is named twice, so each axis is met at most once.
+        targets
+            .iter()
+            .fold(1, |most, t| most.max(self.ticks_for(order.paces, *t)))
     }
 
     /// The ticks that an order takes from where the settings stand.
+    #[inline(always)]
     pub(crate) fn ticks(&self, order: &Order) -> u32
         ensures is { result ≡ ticks_of self.now.motion (value_of self.now.settings) order.now }
         ensures some { 1 ≤ result }
     {
         match self.motion {
             Motion::AtOnce => 1,
-            Motion::Stepwise | Motion::Stalled => Axis::ALL
-                .iter()
-                .fold(1, |most, axis| most.max(self.ticks_on(order, *axis))),
+            Motion::Stepwise | Motion::Stalled => self.longest(order),
         }
     }
 }

@@ -38,7 +38,7 @@ fn start<H: Head>(
     let Some(order) = Order::new(targets, paces) else {
         return println!(rt; "  no order: it names a setting twice");
     };
-    match head.start(slot, order) {
+    match head.start(slot, &order) {
         Ok(()) => {
             let left = head.ticks_left(slot);
             println!(rt; "  slot {slot} takes the order, ticks left: {left}")

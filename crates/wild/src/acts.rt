@@ -73,10 +73,13 @@ impl Head for Wild {
     }
 
     // The ticks have nothing to do with the order.
-    fn start(&mut self, slot: u8, order: Order) -> Result<(), Refusal> {
-        self.admit(slot, &order)?;
+    fn start(&mut self, slot: u8, order: &Order) -> Result<(), Refusal> {
+        self.admit(slot, order)?;
         let left = 1 + self.dice.roll(1000) as u16;
-        let work = Some(Work { order, left });
+        let work = Some(Work {
+            order: *order,
+            left,
+        });
         if slot == 1 {
             self.one = work;
         } else {

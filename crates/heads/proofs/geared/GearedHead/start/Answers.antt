@@ -11,5 +11,5 @@ invariant_of-self g c =
     let s = simp c.PAN_TILT.ensures at c.start.ensures.started in
     record {
       moves = c.start.ensures.motion ∙ h.moves;
-      on_time = λ e. start_keeps (means p h.rig) (means p c.start.new.self) c.args.slot c.args.order (answered c.start.result) s (simp (h.moves ∙ e) at c.start.ensures.ticks) (h.on_time e);
+      on_time = λ e. start_keeps (means p h.rig) (means p c.start.new.self) c.args.slot c.args.order.now (answered c.start.result) s (simp (h.moves ∙ e) at c.start.ensures.ticks) (h.on_time e);
     }

@@ -1,11 +1,9 @@
 use Rattle.std.proofs.Common.{◌∙◌, ap}
-use Rattle.head.specs.declared.setting.Axis.TheVariants.{Focus, Pan, Tilt}
-use Rattle.head.specs.declared.setting.Setting.{Setting}
 use Rattle.head.specs.Meaning.{Slot}
 use Rattle.head.specs.Values.{value_of}
 use Rattle.heads.specs.Exact.{slot_of}
 use Rattle.heads.specs.Rigs.{slots_of, closed}
-use Rattle.heads.proofs.Given.{advanced_is, follows, same_following}
+use Rattle.heads.proofs.Given.{advanced_is}
 use Rattle.heads.proofs.rig.Rig.advance.Goals as goal
 
 pub returns-clause-values : goal.returns-clause-values
@@ -13,21 +11,9 @@ returns-clause-values c s =
     let r = c.args.self.now in
     let e = c.args.endings in
     let b = slots_of r in
-    let f = value_of r.settings in
-    let z = c.follow.new.self in
-    let o = c.follow-2.new.self in
-    let p = c.follow-3.new.self in
-    let t = c.follow-4.new.self in
-    let mz = c.follow.ensures.rest in
-    let mo = c.follow-2.ensures.rest in
-    let mp = c.follow-3.ensures.rest in
-    let mt = c.follow-4.ensures.rest in
-    let ho = λ (s : Setting). same_following r z e Focus (value_of z.settings) (value_of o.settings s) s mz.0 mz.1 mz.2 (c.follow-2.ensures.values s) in
-    let hp = λ (s : Setting). same_following r o e Pan (value_of o.settings) (value_of p.settings s) s (mo.0 ∙ mz.0) (mo.1 ∙ mz.1) (mo.2 ∙ mz.2) (c.follow-3.ensures.values s) in
-    let ht = λ (s : Setting). same_following r p e Tilt (value_of p.settings) (value_of t.settings s) s (mp.0 ∙ mo.0 ∙ mz.0) (mp.1 ∙ mo.1 ∙ mz.1) (mp.2 ∙ mo.2 ∙ mz.2) (c.follow-4.ensures.values s) in
-    let g = follows r.motion b e f (value_of z.settings) (value_of o.settings) (value_of p.settings) (value_of t.settings) c.follow.ensures.values ho hp ht s in
-    let one = ap slot_of (mt.1 ∙ mp.1 ∙ mo.1 ∙ mz.1) in
-    let two = ap slot_of (mt.2 ∙ mp.2 ∙ mo.2 ∙ mz.2) in
+    let m = c.move_positions.new.self in
+    let one = ap slot_of c.move_positions.ensures.rest.1 in
+    let two = ap slot_of c.move_positions.ensures.rest.2 in
     c.close-2.ensures s ∙ ap (λ (k : Slot). closed k e.two s (value_of c.close.new.settings s)) two
-    ∙ ap (closed b.two e.two s) (c.close.ensures s ∙ ap (λ (k : Slot). closed k e.one s (value_of t.settings s)) one ∙ ap (closed b.one e.one s) g)
-    ∙ advanced_is r.motion b e f s r.apart
+    ∙ ap (closed b.two e.two s) (c.close.ensures s ∙ ap (λ (k : Slot). closed k e.one s (value_of m.settings s)) one ∙ ap (closed b.one e.one s) (c.move_positions.ensures.values s))
+    ∙ advanced_is r.motion b e (value_of r.settings) s r.apart
