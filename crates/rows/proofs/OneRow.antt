@@ -1,18 +1,20 @@
 -- No two command rows admit one packet.
-use Rattle.std.proofs.Common.{◌≡◌, ℕ, zero, suc, ◌<◌, Bool, true, false, not, ◌&&◌, ◌||◌, eqb, List, [], ◌∷◌, length, get_or, is_some, MatchOption, Some, None, Option, sym, refl, ◌∙◌, subst, ⊎_elim, arith}
+use Rattle.std.proofs.Common.{◌≡◌, ℕ, zero, suc, ◌<◌, Bool, true, false, not, ◌&&◌, ◌||◌, eqb, List, [], ◌∷◌, length, get_or, is_some, MatchOption, Some, None, Option, Result, sym, refl, ap, ◌∙◌, subst, ⊎_elim, arith}
 use Rattle.std.specs.List.{list_any}
-use Rattle.std.specs.Option.{ok_or}
+use Rattle.std.specs.Option.{ok_or, option_map}
 use Rattle.std.proofs.lemmas.Bool.{and_parts, and_from, or_left, or_right, or_cases, eqb-true, eq-eqb, cases_Bool, not_from_true, both_ways, false≢true}
 use Rattle.head.specs.declared.order.Order.{Order}
 use Rattle.head.specs.declared.setting.Setting.{Setting}
 use Rattle.head.proofs.Options.{no_some}
 use Rattle.head.proofs.Tables.{all_below, each_below}
+use Rattle.rows.specs.declared.command.Command.{Command}
 use Rattle.rows.specs.declared.fault.RowFault.{RowFault}
 use Rattle.rows.specs.declared.operands.Operands.{Operands}
 use Rattle.rows.specs.declared.table.TableRow.{TableRow}
 use Rattle.rows.specs.Codes.{pairs, coded, setting_of}
-use Rattle.rows.specs.Commands.{commands, read_command}
+use Rattle.rows.specs.Commands.{commands, ordered, read_command}
 use Rattle.rows.specs.OneRow.{row_at, admitted_by, ByOneRow}
+use Rattle.rows.specs.Orders.{order_of}
 use Rattle.rows.specs.Reading.{count, reads}
 use Rattle.rows.specs.Rows.{row_has, row_reads}
 use Rattle.rows.specs.Search.{meaning, first_or, first_of}
@@ -25,7 +27,7 @@ record Has (r : TableRow Operands) (k c : ℕ) (os : List ℕ) : Type 0 where
   code : is_some (coded (pairs r.codes) c) ≡ true
   operands : length os ≡ count r.form
 
-has : (r : TableRow Operands) (k c : ℕ) (os : List ℕ) (o : Order) → meaning row_has (row_reads reads) k c os r ≡ Some o → Has r k c os
+has : (r : TableRow Operands) (k c : ℕ) (os : List ℕ) (m : Command) → meaning row_has (row_reads reads) k c os r ≡ Some m → Has r k c os
 has r k c os o e =
     let (h, m) = when_some (row_has r k c) (row_reads reads r c os) e in
     let (x, y) = and_parts (eqb k r.category) (is_some (setting_of r.codes c)) h in
@@ -70,6 +72,10 @@ apart_is x y a t =
     ⊎_elim (λ e. eqb-true x y e) (λ n. absurd (both_ways (not (alike (row_at x) (row_at y))) (not_from_true (alike (row_at x) (row_at y)) a) n))
     (or_cases (eqb x y) (not (alike (row_at x) (row_at y))) t)
 
+mapped : {A B : Type 0} (f : A → B) (x : Option A) {b : B} → option_map f x ≡ Some b → (a : A) × (x ≡ Some a)
+mapped f None e = no_some e
+mapped f (Some a) e = (a, refl)
+
 some_is : {A : Type 0} (x : Option A) → is_some x ≡ true → (a : A) × (x ≡ Some a)
 some_is None e = absurd (false≢true e)
 some_is (Some a) e = (a, refl)
@@ -79,7 +85,9 @@ one_row i j [] o p q e f = no_some e
 one_row i j (k ∷ []) o p q e f = no_some e
 one_row i j (k ∷ c ∷ os) o p q e f =
     let (o', f') = some_is (admitted_by j (k ∷ c ∷ os)) f in
-    let a = alike_both (row_at j) (row_at i) k c os (has (row_at j) k c os o' f') (has (row_at i) k c os o e) in
+    let (n, g) = mapped order_of (meaning row_has (row_reads reads) k c os (row_at j)) f' in
+    let (m, h) = mapped order_of (meaning row_has (row_reads reads) k c os (row_at i)) e in
+    let a = alike_both (row_at j) (row_at i) k c os (has (row_at j) k c os n g) (has (row_at i) k c os m h) in
     apart_is j i a (each_below (told_apart j) 12 (each_below (λ x. all_below (told_apart x) 12) 12 tests j q) i p)
 
 -- Reading, by one row or by none.
@@ -105,11 +113,13 @@ module _ {X M : Type 0} (f : X → Option M) (d : X) where
   first_is [] = λ j l. absurd (omega arith)
   first_is (x ∷ xs) = one_more x xs (f x) (first_of f xs) refl (first_is xs)
 
-by_one_row : (k c : ℕ) (os : List ℕ) (r : Option (ℕ × Order)) (e : RowFault)
+by_one_row : (k c : ℕ) (os : List ℕ) (r : Option (ℕ × Command)) (e : RowFault)
     → MatchOption r (Nowhere (meaning row_has (row_reads reads) k c os) (row_at 12) commands) (Here (meaning row_has (row_reads reads) k c os) (row_at 12) commands)
-    → ByOneRow (k ∷ c ∷ os) (ok_or r e)
-by_one_row k c os None e h = h
-by_one_row k c os (Some p) e h = record { place = h.0; order = h.1; only = λ j l s. one_row p.0 j (k ∷ c ∷ os) p.1 h.0 l h.1 s }
+    → ByOneRow (k ∷ c ∷ os) (ordered (ok_or r e))
+by_one_row k c os None e h = λ j l. ap (option_map order_of) (h j l)
+by_one_row k c os (Some p) e h =
+    let o : admitted_by p.0 (k ∷ c ∷ os) ≡ Some (order_of p.1) = ap (option_map order_of) h.1 in
+    record { place = h.0; order = o; only = λ j l s. one_row p.0 j (k ∷ c ∷ os) (order_of p.1) h.0 l o s }
 
 -- a command is read as an order exactly when one row admits it
 pub read_by_one_row : (body : List ℕ) → ByOneRow body (read_command body)
@@ -117,3 +127,6 @@ unfolding read_command
 read_by_one_row [] = λ j h. refl
 read_by_one_row (k ∷ []) = λ j h. refl
 read_by_one_row (k ∷ c ∷ os) = by_one_row k c os _ _ (first_is (meaning row_has (row_reads reads) k c os) (row_at 12) commands)
+
+pub as_read : (body : List ℕ) (r : Result (ℕ × Order) RowFault) → r ≡ read_command body → ByOneRow body r
+as_read body r e = subst (ByOneRow body) (sym e) (read_by_one_row body)

@@ -2,12 +2,12 @@
 use Rattle.std.proofs.Common.{◌≡◌, ℕ, Bool, true, false, cond, eqb, List, [], ◌∷◌, IfSome, IfOk, Some, None, Ok, Err, Option, Result, refl, length, slice_index, subst}
 use Rattle.std.proofs.lemmas.Bool.{cond_both}
 use Rattle.std.proofs.lemmas.Result.{MatchResult-weaker}
+use Rattle.std.specs.Option.{option_map}
 use Rattle.head.specs.declared.order.Order.{Order}
 use Rattle.head.specs.declared.order.Paces.{Paces}
 use Rattle.head.specs.declared.setting.Setting.{Setting}
-use Rattle.head.specs.declared.target.Targets.{Targets}
-use Rattle.head.specs.Made.{if_different, made}
-use Rattle.head.specs.Orders.{parts, different, all_in_range}
+use Rattle.head.specs.Orders.{parts, all_in_range}
+use Rattle.rows.specs.declared.command.Command.{Command}
 use Rattle.rows.specs.declared.fault.PacketFault.{PacketFault}
 use Rattle.rows.specs.declared.fault.PacketFault.TheVariants.{UnknownBody}
 use Rattle.rows.specs.declared.fault.RowFault.{RowFault}
@@ -16,13 +16,14 @@ use Rattle.rows.specs.declared.operands.Operands.{Operands}
 use Rattle.rows.specs.declared.operands.Operands.TheVariants.{Digit, Drive, Position, PositionAtSpeed, Level, Number, PanTiltDrive, PanTilt, Home}
 use Rattle.rows.specs.declared.operands.Sense.TheVariants.{Up, Down}
 use Rattle.rows.specs.declared.request.Request.{Request}
-use Rattle.rows.specs.declared.request.Request.TheVariants.{Command, Ask}
+use Rattle.rows.specs.declared.request.Request.TheVariants as request
 use Rattle.rows.specs.declared.table.TableRow.{TableRow}
 use Rattle.rows.specs.Codes.{setting_of}
 use Rattle.rows.specs.Commands.{read_command}
 use Rattle.rows.specs.Digits.{word}
 use Rattle.rows.specs.Inquiries.{read_inquiry}
 use Rattle.rows.specs.OneRow.{row_at, admitted_by, ReadByOne}
+use Rattle.rows.specs.Orders.{order_of}
 use Rattle.rows.specs.Reading.{bind, ranged, turning, steered, pan_tilt_driven, pan_tilt_placed, four, count, means, reads}
 use Rattle.rows.specs.Requests.{as_command, as_inquiry, read_body}
 use Rattle.rows.specs.Rows.{row_has, row_reads}
@@ -32,45 +33,40 @@ use Rattle.rows.proofs.OneRow.{read_by_one_row}
 abbrev OrderInRange : Order → Type 0
 OrderInRange o = all_in_range (parts o.targets) ≡ true
 
--- an order, if there is one, with every target in range
-InRange : Option Order → Type 0
-InRange x = IfSome x OrderInRange
+-- what a command says, if it says anything, with every target in range
+InRange : Option Command → Type 0
+InRange x = IfSome x (λ c. OrderInRange (order_of c))
 
-cond_in_range : (b : Bool) (x : Option Order) → InRange x → InRange (cond b x None)
+cond_in_range : (b : Bool) (x : Option Command) → InRange x → InRange (cond b x None)
 unfolding InRange
 cond_in_range true x h = h
 cond_in_range false x h = tt
 
-bind_in_range : {A : Type 0} (x : Option A) (f : A → Option Order) → ((a : A) → InRange (f a)) → InRange (bind x f)
+bind_in_range : {A : Type 0} (x : Option A) (f : A → Option Command) → ((a : A) → InRange (f a)) → InRange (bind x f)
 unfolding InRange
 bind_in_range None f h = tt
 bind_in_range (Some a) f h = h a
 
-made_in_range : (ts : Targets) (p : Paces) (b : Bool) (e : different (parts ts) ≡ b) → all_in_range (parts ts) ≡ true → InRange (if_different ts p b e)
-unfolding InRange
-made_in_range ts p true e r = r
-made_in_range ts p false e r = tt
-
-ranged_in_range : (ts : Targets) (p : Paces) → InRange (ranged ts p)
+ranged_in_range : (c : Command) → InRange (ranged c)
 unfolding ranged InRange
-ranged_in_range ts p = cond_both (all_in_range (parts ts)) (made ts p) None InRange (made_in_range ts p (different (parts ts)) refl) (λ e. tt)
+ranged_in_range c = cond_both (all_in_range (parts (order_of c).targets)) (Some c) None InRange (λ e. e) (λ e. tt)
 
 driven_in_range : (p : Paces) (d e : ℕ) → InRange (pan_tilt_driven p d e)
-driven_in_range p d e = bind_in_range (steered Up d p.pan) _ (λ x. bind_in_range (steered Down e p.tilt) _ (λ y. ranged_in_range _ _))
+driven_in_range p d e = bind_in_range (steered Up d p.pan) _ (λ x. bind_in_range (steered Down e p.tilt) _ (λ y. ranged_in_range _))
 
 placed_in_range : (p : Paces) (xs ys : List ℕ) → InRange (pan_tilt_placed p xs ys)
-placed_in_range p xs ys = bind_in_range (word xs) _ (λ x. bind_in_range (word ys) _ (λ y. ranged_in_range _ _))
+placed_in_range p xs ys = bind_in_range (word xs) _ (λ x. bind_in_range (word ys) _ (λ y. ranged_in_range _))
 
 means_in_range : (f : Operands) (s : Setting) (os : List ℕ) → InRange (means f s os)
-means_in_range Digit s os = cond_in_range _ _ (ranged_in_range _ _)
-means_in_range (Drive e) s os = bind_in_range _ _ (λ d. ranged_in_range _ _)
-means_in_range (Position a lens) s os = bind_in_range _ _ (λ n. ranged_in_range _ _)
-means_in_range (PositionAtSpeed a) s os = cond_in_range _ _ (bind_in_range _ _ (λ n. ranged_in_range _ _))
-means_in_range Level s os = cond_in_range _ _ (ranged_in_range _ _)
-means_in_range Number s os = bind_in_range _ _ (λ n. ranged_in_range _ _)
+means_in_range Digit s os = cond_in_range _ _ (ranged_in_range _)
+means_in_range (Drive e) s os = bind_in_range _ _ (λ d. ranged_in_range _)
+means_in_range (Position a lens) s os = bind_in_range _ _ (λ n. ranged_in_range _)
+means_in_range (PositionAtSpeed a) s os = cond_in_range _ _ (bind_in_range _ _ (λ n. ranged_in_range _))
+means_in_range Level s os = cond_in_range _ _ (ranged_in_range _)
+means_in_range Number s os = bind_in_range _ _ (λ n. ranged_in_range _)
 means_in_range PanTiltDrive s os = bind_in_range (turning (slice_index os 0) (slice_index os 1)) _ (λ p. driven_in_range p (slice_index os 2) (slice_index os 3))
 means_in_range PanTilt s os = bind_in_range (turning (slice_index os 0) (slice_index os 1)) _ (λ p. placed_in_range p (four 2 os) (four 6 os))
-means_in_range Home s os = ranged_in_range _ _
+means_in_range Home s os = ranged_in_range _
 
 reads_in_range : (f : Operands) (s : Setting) (os : List ℕ) → InRange (reads f s os)
 reads_in_range f s os = cond_in_range (eqb (length os) (count f)) (means f s os) (means_in_range f s os)
@@ -78,22 +74,26 @@ reads_in_range f s os = cond_in_range (eqb (length os) (count f)) (means f s os)
 row_in_range : (r : TableRow Operands) (k c : ℕ) (os : List ℕ) → InRange (meaning row_has (row_reads reads) k c os r)
 row_in_range r k c os = cond_in_range (row_has r k c) _ (bind_in_range (setting_of r.codes c) _ (λ s. reads_in_range r.form s os))
 
-admitted_in_range : (i : ℕ) (body : List ℕ) → InRange (admitted_by i body)
+order_in_range : (x : Option Command) → InRange x → IfSome (option_map order_of x) OrderInRange
 unfolding InRange
+order_in_range None h = tt
+order_in_range (Some c) h = h
+
+admitted_in_range : (i : ℕ) (body : List ℕ) → IfSome (admitted_by i body) OrderInRange
 admitted_in_range i [] = tt
 admitted_in_range i (k ∷ []) = tt
-admitted_in_range i (k ∷ c ∷ os) = row_in_range (row_at i) k c os
+admitted_in_range i (k ∷ c ∷ os) = order_in_range _ (row_in_range (row_at i) k c os)
 
 read_in_range : (body : List ℕ) → IfOk (read_command body) (λ p. OrderInRange p.1)
-unfolding InRange
 read_in_range body =
-    MatchResult-weaker (read_command body) (read_by_one_row body) (λ p (h : ReadByOne body p.0 p.1). subst InRange h.order (admitted_in_range p.0 body)) (λ e h. tt)
+    MatchResult-weaker (read_command body) (read_by_one_row body)
+    (λ p (h : ReadByOne body p.0 p.1). subst (λ (x : Option Order). IfSome x OrderInRange) h.order (admitted_in_range p.0 body)) (λ e h. tt)
 
 -- The same for a whole body.
 
 RequestInRange : Result Request PacketFault → Type 0
-RequestInRange (Ok (Command i o)) = OrderInRange o
-RequestInRange (Ok (Ask q)) = Unit {0}
+RequestInRange (Ok (request.Command i o)) = OrderInRange o
+RequestInRange (Ok (request.Ask q)) = Unit {0}
 RequestInRange (Err f) = Unit {0}
 
 as_command_in_range : (r : Result (ℕ × Order) RowFault) → IfOk r (λ p. OrderInRange p.1) → RequestInRange (as_command r)
@@ -114,6 +114,6 @@ read_body_in_range (t ∷ rest) =
     (λ e. as_command_in_range (read_command rest) (read_in_range rest))
     (λ e. cond_both (eqb t 0x09) (as_inquiry (read_inquiry rest)) (Err UnknownBody) RequestInRange (λ e. as_inquiry_in_range (read_inquiry rest)) (λ e. tt))
 
-pub body_in_range : (body : List ℕ) (i : ℕ) (o : Order) → read_body body ≡ Ok (Command i o) → all_in_range (parts o.targets) ≡ true
+pub body_in_range : (body : List ℕ) (i : ℕ) (o : Order) → read_body body ≡ Ok (request.Command i o) → all_in_range (parts o.targets) ≡ true
 unfolding RequestInRange
 body_in_range body i o e = subst RequestInRange e (read_body_in_range body)

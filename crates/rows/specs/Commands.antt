@@ -1,14 +1,16 @@
 -- The command rows, and what a command is read as.
-use Rattle.std.specs.Prelude.{ℕ, List, [], ◌∷◌, Result}
+use Rattle.std.specs.Prelude.{ℕ, List, [], ◌∷◌, Ok, Err, Result}
 use Rattle.head.specs.declared.order.Order.{Order}
 use Rattle.head.specs.declared.setting.Axis.TheVariants as axis
 use Rattle.head.specs.declared.setting.Setting.TheVariants.{Power, ZoomDrive, FocusDrive, Zoom, Focus, Identity, PanDrive, Pan}
 use Rattle.rows.specs.declared.codes.Codes.TheVariants.{One, Modes, Levels}
+use Rattle.rows.specs.declared.command.Command.{Command}
 use Rattle.rows.specs.declared.fault.RowFault.{RowFault}
 use Rattle.rows.specs.declared.operands.Operands.{Operands}
 use Rattle.rows.specs.declared.operands.Operands.TheVariants.{Digit, Drive, Position, PositionAtSpeed, Level, Number, PanTiltDrive, PanTilt, Home}
 use Rattle.rows.specs.declared.operands.Sense.TheVariants.{Up, Down}
 use Rattle.rows.specs.declared.table.TableRow.{TableRow}
+use Rattle.rows.specs.Orders.{order_of}
 use Rattle.rows.specs.Reading.{reads}
 use Rattle.rows.specs.Rows.{row, row_has, row_reads}
 use Rattle.rows.specs.Search.{found}
@@ -29,6 +31,11 @@ commands =
     ∷ row 0x06 (One 0x04 Pan) Home
     ∷ []
 
+-- with the order that a command is
+abbrev pub ordered : Result (ℕ × Command) RowFault → Result (ℕ × Order) RowFault
+ordered (Ok p) = Ok (p.0, order_of p.1)
+ordered (Err e) = Err e
+
 -- what a command is read as, behind its first byte; shut, since the table is long
 unfoldable pub read_command : List ℕ → Result (ℕ × Order) RowFault
-read_command body = found row_has (row_reads reads) commands body
+read_command body = ordered (found row_has (row_reads reads) commands body)

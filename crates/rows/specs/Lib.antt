@@ -2,6 +2,7 @@ pub mod Search
 pub mod Admitted
 pub mod Digits
 pub mod Codes
+pub mod Orders
 pub mod Reading
 pub mod Rows
 pub mod Commands

@@ -1,5 +1,6 @@
 -- A packet is read as an order exactly when one row admits it, and as the order that this row makes of it.
 use Rattle.std.specs.Prelude.{◌≡◌, ℕ, ◌<◌, true, List, [], ◌∷◌, is_some, Some, None, Option, Result, MatchResult, slice_index_or}
+use Rattle.std.specs.Option.{option_map}
 use Rattle.head.specs.declared.order.Order.{Order}
 use Rattle.head.specs.declared.setting.Setting.TheVariants.{Pan}
 use Rattle.rows.specs.declared.codes.Codes.TheVariants.{One}
@@ -8,6 +9,7 @@ use Rattle.rows.specs.declared.operands.Operands.{Operands}
 use Rattle.rows.specs.declared.operands.Operands.TheVariants.{Home}
 use Rattle.rows.specs.declared.table.TableRow.{TableRow}
 use Rattle.rows.specs.Commands.{commands}
+use Rattle.rows.specs.Orders.{order_of}
 use Rattle.rows.specs.Reading.{reads}
 use Rattle.rows.specs.Rows.{row_has, row_reads}
 use Rattle.rows.specs.Search.{meaning}
@@ -20,7 +22,7 @@ row_at i = slice_index_or commands i (record { category = 0x06; codes = One 0x04
 abbrev pub admitted_by : ℕ → List ℕ → Option Order
 admitted_by i [] = None
 admitted_by i (k ∷ []) = None
-admitted_by i (k ∷ c ∷ os) = meaning row_has (row_reads reads) k c os (row_at i)
+admitted_by i (k ∷ c ∷ os) = option_map order_of (meaning row_has (row_reads reads) k c os (row_at i))
 
 -- the row at place i admits the command as order o, and no other row admits it
 pub record ReadByOne (body : List ℕ) (i : ℕ) (o : Order) : Type 0 where

@@ -1,44 +1,34 @@
--- What operands mean: the order that each form makes of the bytes behind category and code.
--- Every byte counts, and every target must be in range, or nothing is made of them.
+-- What operands mean: what each form has them say, of the bytes behind category and code.
+-- Every byte counts, and every target must be in range, or they say nothing.
 use Rattle.std.specs.Prelude.{ℕ, ◌+◌, ◌-◌, ◌*◌, cond, ◌&&◌, List, [], ◌∷◌, ℤ, pos, neg_ℤ, Some, None, Option, ◌==◌, nat_le, nat_lt, length, slice_index}
-use Rattle.head.specs.declared.order.Order.{Order}
 use Rattle.head.specs.declared.order.Paces.{Paces}
 use Rattle.head.specs.declared.setting.Axis.{Axis}
 use Rattle.head.specs.declared.setting.Setting.{Setting}
-use Rattle.head.specs.declared.setting.Setting.TheVariants.{Pan, Tilt, PanDrive, TiltDrive}
-use Rattle.head.specs.declared.target.Target.{Target}
-use Rattle.head.specs.declared.target.Targets.{Targets}
-use Rattle.head.specs.declared.target.Targets.TheVariants.{One, Two, Four}
-use Rattle.head.specs.Settings.{position, drive}
 use Rattle.head.specs.Orders.{parts, all_in_range}
-use Rattle.head.specs.Made.{made}
+use Rattle.rows.specs.declared.command.Command.{Command}
+use Rattle.rows.specs.declared.command.Command.TheVariants as says
 use Rattle.rows.specs.declared.operands.Operands.{Operands}
 use Rattle.rows.specs.declared.operands.Operands.TheVariants.{Digit, Drive, Position, PositionAtSpeed, Level, Number, PanTiltDrive, PanTilt, Home}
 use Rattle.rows.specs.declared.operands.Sense.{Sense}
 use Rattle.rows.specs.declared.operands.Sense.TheVariants.{Up, Down}
 use Rattle.rows.specs.Digits.{word, signed}
+use Rattle.rows.specs.Orders.{to, paces, order_of}
 
 abbrev pub bind : {A B : Type 0} → Option A → (A → Option B) → Option B
 bind None f = None
 bind (Some a) f = f a
 
--- Orders.
+-- Commands.
 
-abbrev pub to : Setting → ℤ → Target
-to s v = record { setting = s; value = v }
+-- a command, if every target of its order is in range; shut, since it grows long when it is opened
+unfoldable pub ranged : Command → Option Command
+ranged c = cond (all_in_range (parts (order_of c).targets)) (Some c) None
 
-abbrev pub paces : ℕ → ℕ → ℕ → Paces
-paces l p t = record { lens = l; pan = p; tilt = t }
+-- a setting alone to a value
+abbrev pub alone : Setting → ℤ → Option Command
+alone s v = ranged (says.Set (to s v))
 
--- an order of these targets, if every one is in range; shut, since it grows long when it is opened
-unfoldable pub ranged : Targets → Paces → Option Order
-ranged ts p = cond (all_in_range (parts ts)) (made ts p) None
-
--- a setting alone to a value, at no pace
-abbrev pub alone : Setting → ℤ → Option Order
-alone s v = ranged (One (to s v ∷ [])) (paces 0 0 0)
-
-abbrev pub digit : Setting → ℕ → Option Order
+abbrev pub digit : Setting → ℕ → Option Command
 digit s p = cond (nat_lt p 16) (alone s (pos p)) None
 
 -- 00, 02, 03, 2p and 3p, with p from 0 to 7
@@ -55,22 +45,22 @@ abbrev pub turned : Sense → ℤ → ℤ
 turned Up d = d
 turned Down d = neg_ℤ d
 
-abbrev pub driven : Sense → Setting → ℕ → Option Order
+abbrev pub driven : Sense → Setting → ℕ → Option Command
 driven e s b = bind (pushed b) (λ d. alone s (turned e d))
 
-abbrev pub placed : Axis → ℕ → List ℕ → Option Order
-placed a lens ds = bind (word ds) (λ n. ranged (Two (to (position a) (pos n) ∷ to (drive a) (pos 0) ∷ [])) (paces lens 0 0))
+abbrev pub placed : Axis → ℕ → List ℕ → Option Command
+placed a lens ds = bind (word ds) (λ n. ranged (says.Place (record { axis = a; lens = lens; position = pos n })))
 
-abbrev pub placed_at : Axis → ℕ → List ℕ → Option Order
+abbrev pub placed_at : Axis → ℕ → List ℕ → Option Command
 placed_at a n ds = cond (nat_le n 7) (placed a (n + 1) ds) None
 
 -- 00 00 0p 0q
-abbrev pub level : Setting → List ℕ → Option Order
+abbrev pub level : Setting → List ℕ → Option Command
 level s os =
     let p = slice_index os 2 in let q = slice_index os 3 in
     cond (slice_index os 0 == 0 && slice_index os 1 == 0 && nat_lt p 16 && nat_lt q 16) (alone s (pos (p * 16 + q))) None
 
-abbrev pub number : Setting → List ℕ → Option Order
+abbrev pub number : Setting → List ℕ → Option Command
 number s ds = bind (word ds) (λ n. alone s (pos n))
 
 -- the paces of VV WW: VV from 01 to 18, WW from 01 to 14
@@ -81,16 +71,16 @@ turning v w = cond (nat_le 1 v && nat_le v 0x18 && nat_le 1 w && nat_le w 0x14) 
 abbrev pub steered : Sense → ℕ → ℕ → Option ℤ
 steered e d n = cond (d == 1) (Some (turned e (neg_ℤ (pos n)))) (cond (d == 2) (Some (turned e (pos n))) (cond (d == 3) (Some (pos 0)) None))
 
-abbrev pub pan_tilt_driven : Paces → ℕ → ℕ → Option Order
-pan_tilt_driven p d e = bind (steered Up d p.pan) (λ x. bind (steered Down e p.tilt) (λ y. ranged (Two (to PanDrive x ∷ to TiltDrive y ∷ [])) p))
+abbrev pub pan_tilt_driven : Paces → ℕ → ℕ → Option Command
+pan_tilt_driven p d e = bind (steered Up d p.pan) (λ x. bind (steered Down e p.tilt) (λ y. ranged (says.Drive (record { pan = x; tilt = y; paces = p }))))
 
-abbrev pub pan_tilt : Paces → ℤ → ℤ → Option Order
-pan_tilt p x y = ranged (Four (to Pan x ∷ to Tilt y ∷ to PanDrive (pos 0) ∷ to TiltDrive (pos 0) ∷ [])) p
+abbrev pub pan_tilt : Paces → ℤ → ℤ → Option Command
+pan_tilt p x y = ranged (says.Turn (record { pan = x; tilt = y; paces = p }))
 
-abbrev pub pan_tilt_placed : Paces → List ℕ → List ℕ → Option Order
+abbrev pub pan_tilt_placed : Paces → List ℕ → List ℕ → Option Command
 pan_tilt_placed p xs ys = bind (word xs) (λ x. bind (word ys) (λ y. pan_tilt p (signed x) (signed y)))
 
-abbrev pub home : Option Order
+abbrev pub home : Option Command
 home = pan_tilt (paces 0 24 20) (pos 0) (pos 0)
 
 -- Operands.
@@ -112,7 +102,7 @@ abbrev pub four : ℕ → List ℕ → List ℕ
 four i os = slice_index os i ∷ slice_index os (i + 1) ∷ slice_index os (i + 2) ∷ slice_index os (i + 3) ∷ []
 
 -- what a form makes of so many bytes, where its code stands for a setting
-abbrev pub means : Operands → Setting → List ℕ → Option Order
+abbrev pub means : Operands → Setting → List ℕ → Option Command
 means Digit s os = digit s (slice_index os 0)
 means (Drive e) s os = driven e s (slice_index os 0)
 means (Position a lens) s os = placed a lens (four 0 os)
@@ -124,5 +114,5 @@ means PanTilt s os = bind (turning (slice_index os 0) (slice_index os 1)) (λ p.
 means Home s os = home
 
 -- what a form makes of operands: nothing, unless there are just so many bytes
-abbrev pub reads : Operands → Setting → List ℕ → Option Order
+abbrev pub reads : Operands → Setting → List ℕ → Option Command
 reads f s os = cond (length os == count f) (means f s os) None

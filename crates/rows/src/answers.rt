@@ -19,6 +19,7 @@ fn shown<L: Look>(from: &L, setting: Setting) -> [u8; 4]
 }
 
 // Pan and tilt in eight digits, or error 41 without them.
+#[inline(always)]
 fn answer_pan_tilt<L: Look>(from: &L, header: u8, out: &mut [u8]) -> Option<usize>
     ensures count { result ≡ count_of (answer_of L.Look from.now header (asks Pan PanTilt)) out.old }
     ensures sent { out.new ≡ sent_into (answer_of L.Look from.now header (asks Pan PanTilt)) out.old }
@@ -33,6 +34,7 @@ fn answer_pan_tilt<L: Look>(from: &L, header: u8, out: &mut [u8]) -> Option<usiz
 
 /// Puts the answer to an inquiry at the front of the buffer, behind the reply's header, and tells
 /// the count; a buffer that is too short for it is left as it is.
+#[inline(always)]
 pub fn answer<L: Look>(from: &L, inquiry: Inquiry, header: u8, out: &mut [u8]) -> Option<usize>
     ensures count { result ≡ count_of (answer_of L.Look from.now header inquiry) out.old }
     ensures sent { out.new ≡ sent_into (answer_of L.Look from.now header inquiry) out.old }

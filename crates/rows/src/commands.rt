@@ -1,10 +1,11 @@
 //! The command rows: what packets make the head do.
 
 ghost use Rattle.std.specs.Prelude.{◌≡◌};
-ghost use Rattle.rows.specs.Commands.{read_command as command_read};
+ghost use Rattle.rows.specs.Commands.{ordered, read_command as command_read};
 ghost use Rattle.rows.specs.OneRow.{ByOneRow};
 
 use crate::codes::Codes::{Levels, Modes, One};
+use crate::command::Command;
 use crate::fault::RowFault;
 use crate::find::find_row;
 use crate::operands::Operands::{
@@ -47,11 +48,20 @@ pub const COMMANDS: [CommandRow; 12] = [
 ];
 
 /// Reads a command behind its first byte, `01`: the place of the one row that admits it, from 0, and
-/// the order that it is.
-#[inline(never)]
+/// what it says.
+#[tactic(auto, unfolding(crate::specs::Commands::read_command))]
+#[inline(always)]
+pub fn find_command(body: &[u8]) -> Result<(usize, Command), RowFault>
+    ensures { ordered result ≡ command_read body.now }
+{
+    find_row(&COMMANDS, body)
+}
+
+/// The same, with the order that it is.
 pub fn read_command(body: &[u8]) -> Result<(usize, Order), RowFault>
     ensures is { result ≡ command_read body.now }
     ensures one_row { ByOneRow body.now result }
 {
-    find_row(&COMMANDS, body)
+    let (row, command) = find_command(body)?;
+    Ok((row, command.order()))
 }

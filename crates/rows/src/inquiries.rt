@@ -69,6 +69,7 @@ pub const INQUIRIES: [InquiryRow; 7] = [
 /// Reads an inquiry behind its first byte, `09`: the place of the row that admits it, from 0, and
 /// what it asks.
 #[tactic(auto, unfolding(crate::specs::Inquiries::read_inquiry))]
+#[inline(always)]
 pub fn read_inquiry(body: &[u8]) -> Result<(usize, Inquiry), RowFault>
     ensures { result ≡ inquiry_read body.now }
 {

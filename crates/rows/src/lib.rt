@@ -5,6 +5,7 @@
 
 mod answers;
 mod codes;
+mod command;
 mod commands;
 mod digits;
 mod fault;
@@ -20,11 +21,12 @@ mod words;
 
 pub use answers::answer;
 pub use codes::Codes;
-pub use commands::{COMMANDS, CommandRow, read_command};
+pub use command::{Command, PanTilt, Place};
+pub use commands::{COMMANDS, CommandRow, find_command, read_command};
 pub use fault::{PacketFault, RowFault};
 pub use find::find_row;
 pub use inquiries::{Form, INQUIRIES, Inquiry, InquiryRow, read_inquiry};
 pub use operands::{OperandForm, Operands, Sense};
-pub use request::{Request, read};
+pub use request::{COMMAND, INQUIRY, Request, read};
 pub use row::{Body, Row};
 pub use table::TableRow;

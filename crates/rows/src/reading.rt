@@ -1,11 +1,12 @@
-//! Operands to orders. Every byte counts, and every target must be in range.
+//! Operands to what they say. Every byte counts, and every target must be in range.
 
 ghost use Rattle.std.specs.Prelude.{◌≡◌, pos};
-ghost use Rattle.rows.specs.Reading.{to, ranged as ranged_by, alone as alone_by, digit as digit_by, pushed as pushed_by, turned as turned_by, driven as driven_by, placed as placed_by, placed_at as placed_at_by, level as level_by, number as number_by, turning as turning_by, steered as steered_by, pan_tilt_driven as pan_tilt_driven_by, pan_tilt as pan_tilt_by, pan_tilt_placed as pan_tilt_placed_by, home as home_by, reads};
+ghost use Rattle.rows.specs.Reading.{ranged as ranged_by, alone as alone_by, digit as digit_by, pushed as pushed_by, turned as turned_by, driven as driven_by, placed as placed_by, placed_at as placed_at_by, level as level_by, number as number_by, turning as turning_by, steered as steered_by, pan_tilt_driven as pan_tilt_driven_by, pan_tilt as pan_tilt_by, pan_tilt_placed as pan_tilt_placed_by, home as home_by, reads};
 
+use crate::command::{Command, PanTilt, Place};
 use crate::digits::{signed, word};
 use crate::operands::{OperandForm, Operands, Sense};
-use head::{Axis, Order, Paces, Setting, Target, Targets};
+use head::{Axis, Paces, Setting, Target};
 
 const STILL: Paces = Paces {
     lens: 0,
@@ -13,37 +14,23 @@ const STILL: Paces = Paces {
     tilt: 0,
 };
 
-// An order of these targets, if every one is in range.
+// A command, if every target of its order is in range.
 #[tactic(auto, unfolding(crate::specs::Reading::ranged))]
 #[inline(always)]
-fn ranged(targets: Targets, paces: Paces) -> Option<Order>
-    ensures { result ≡ ranged_by targets paces }
+fn ranged(command: Command) -> Option<Command>
+    ensures { result ≡ ranged_by command }
 {
-    if targets.in_range() {
-        Order::new(targets, paces)
-    } else {
-        None
-    }
-}
-
-// A setting and the number that it is to get.
-fn at(setting: Setting, n: u16) -> Target
-    ensures { result ≡ to setting (pos n) }
-{
-    Target {
-        setting,
-        value: i32::from(n),
-    }
+    command.in_range().then_some(command)
 }
 
 // A setting alone, to get this value.
-fn alone(setting: Setting, value: i32) -> Option<Order>
+fn alone(setting: Setting, value: i32) -> Option<Command>
     ensures { result ≡ alone_by setting value }
 {
-    ranged(Targets::One([Target { setting, value }]), STILL)
+    ranged(Command::Set(Target { setting, value }))
 }
 
-fn digit(setting: Setting, p: u8) -> Option<Order>
+fn digit(setting: Setting, p: u8) -> Option<Command>
     ensures { result ≡ digit_by setting p }
 {
     match p {
@@ -75,21 +62,27 @@ fn turned(sense: Sense, drive: i16) -> i32
     }
 }
 
-fn driven(sense: Sense, setting: Setting, b: u8) -> Option<Order>
+#[inline(always)]
+fn driven(sense: Sense, setting: Setting, b: u8) -> Option<Command>
     ensures { result ≡ driven_by sense setting b }
 {
     alone(setting, turned(sense, pushed(b)?))
 }
 
-fn placed(axis: Axis, lens: u8, digits: [u8; 4]) -> Option<Order>
+#[inline(always)]
+fn placed(axis: Axis, lens: u8, digits: [u8; 4]) -> Option<Command>
     ensures { result ≡ placed_by axis lens digits }
 {
-    let position = at(axis.position(), word(digits)?);
-    let drive = at(axis.drive(), 0);
-    ranged(Targets::Two([position, drive]), Paces { lens, ..STILL })
+    let position = i32::from(word(digits)?);
+    ranged(Command::Place(Place {
+        axis,
+        lens,
+        position,
+    }))
 }
 
-fn placed_at(axis: Axis, n: u8, digits: [u8; 4]) -> Option<Order>
+#[inline(always)]
+fn placed_at(axis: Axis, n: u8, digits: [u8; 4]) -> Option<Command>
     ensures { result ≡ placed_at_by axis n digits }
 {
     match n {
@@ -98,7 +91,7 @@ fn placed_at(axis: Axis, n: u8, digits: [u8; 4]) -> Option<Order>
     }
 }
 
-fn level(setting: Setting, operands: [u8; 4]) -> Option<Order>
+fn level(setting: Setting, operands: [u8; 4]) -> Option<Command>
     ensures { result ≡ level_by setting operands }
 {
     match operands {
@@ -107,7 +100,7 @@ fn level(setting: Setting, operands: [u8; 4]) -> Option<Order>
     }
 }
 
-fn number(setting: Setting, digits: [u8; 4]) -> Option<Order>
+fn number(setting: Setting, digits: [u8; 4]) -> Option<Command>
     ensures { result ≡ number_by setting digits }
 {
     alone(setting, i32::from(word(digits)?))
@@ -139,43 +132,30 @@ fn steered(sense: Sense, d: u8, pace: u8) -> Option<i32>
     }
 }
 
-fn pan_tilt_driven(paces: Paces, d: u8, e: u8) -> Option<Order>
+#[inline(always)]
+fn pan_tilt_driven(paces: Paces, d: u8, e: u8) -> Option<Command>
     ensures { result ≡ pan_tilt_driven_by paces d e }
 {
-    let pan = Target {
-        setting: Setting::PanDrive,
-        value: steered(Sense::Up, d, paces.pan)?,
-    };
-    let tilt = Target {
-        setting: Setting::TiltDrive,
-        value: steered(Sense::Down, e, paces.tilt)?,
-    };
-    ranged(Targets::Two([pan, tilt]), paces)
+    let pan = steered(Sense::Up, d, paces.pan)?;
+    let tilt = steered(Sense::Down, e, paces.tilt)?;
+    ranged(Command::Drive(PanTilt { pan, tilt, paces }))
 }
 
-fn pan_tilt(paces: Paces, x: i32, y: i32) -> Option<Order>
-    ensures { result ≡ pan_tilt_by paces x y }
+#[inline(always)]
+fn pan_tilt(paces: Paces, pan: i32, tilt: i32) -> Option<Command>
+    ensures { result ≡ pan_tilt_by paces pan tilt }
 {
-    let pan = Target {
-        setting: Setting::Pan,
-        value: x,
-    };
-    let tilt = Target {
-        setting: Setting::Tilt,
-        value: y,
-    };
-    let pan_drive = at(Setting::PanDrive, 0);
-    let tilt_drive = at(Setting::TiltDrive, 0);
-    ranged(Targets::Four([pan, tilt, pan_drive, tilt_drive]), paces)
+    ranged(Command::Turn(PanTilt { pan, tilt, paces }))
 }
 
-fn pan_tilt_placed(paces: Paces, x: [u8; 4], y: [u8; 4]) -> Option<Order>
+#[inline(always)]
+fn pan_tilt_placed(paces: Paces, x: [u8; 4], y: [u8; 4]) -> Option<Command>
     ensures { result ≡ pan_tilt_placed_by paces x y }
 {
     pan_tilt(paces, signed(word(x)?), signed(word(y)?))
 }
 
-fn home() -> Option<Order>
+fn home() -> Option<Command>
     ensures { result ≡ home_by }
 {
     let paces = Paces {
@@ -187,11 +167,12 @@ fn home() -> Option<Order>
 }
 
 impl OperandForm for Operands {
-    type Meaning = Order;
+    type Meaning = Command;
 
     ghost makes = { reads };
 
-    fn read(&self, setting: Setting, operands: &[u8]) -> Option<Order> {
+    #[inline(always)]
+    fn read(&self, setting: Setting, operands: &[u8]) -> Option<Command> {
         match (*self, operands) {
             (Operands::Digit, &[p]) => digit(setting, p),
             (Operands::Drive(sense), &[b]) => driven(sense, setting, b),

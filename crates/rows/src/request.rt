@@ -13,6 +13,12 @@ use crate::inquiries::{Inquiry, read_inquiry};
 use head::Order;
 use wire::{FaultCode, Layer};
 
+/// The first byte of a command's body.
+pub const COMMAND: u8 = 0x01;
+
+/// The first byte of an inquiry's body.
+pub const INQUIRY: u8 = 0x09;
+
 /// What a packet for this end asks for.
 #[derive(Clone, Copy, Debug, PartialEq, Eq)]
 pub enum Request {
@@ -30,7 +36,6 @@ impl From<RowFault> for PacketFault {
     }
 }
 
-#[inline(always)]
 fn command(rest: &[u8]) -> Result<Request, PacketFault>
     ensures { result ≡ as_command (command_read rest.now) }
 {
@@ -38,7 +43,6 @@ fn command(rest: &[u8]) -> Result<Request, PacketFault>
     Ok(Request::Command(row, order))
 }
 
-#[inline(always)]
 fn asked(rest: &[u8]) -> Result<Request, PacketFault>
     ensures { result ≡ as_inquiry (inquiry_read rest.now) }
 {
@@ -47,13 +51,12 @@ fn asked(rest: &[u8]) -> Result<Request, PacketFault>
 }
 
 /// Reads a body: `01` begins a command, `09` an inquiry.
-#[inline(always)]
 pub fn read(body: &[u8]) -> Result<Request, PacketFault>
     ensures { result ≡ read_body body.now }
 {
-    match body.split_first() {
-        Some((0x01, rest)) => command(rest),
-        Some((0x09, rest)) => asked(rest),
+    match body {
+        [COMMAND, rest @ ..] => command(rest),
+        [INQUIRY, rest @ ..] => asked(rest),
         _ => Err(PacketFault::UnknownBody),
     }
 }

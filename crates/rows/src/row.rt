@@ -20,12 +20,12 @@ pub trait Row {
     ghost reads: { Self → ℕ → List ℕ → Option Self.Meaning };
 
     /// Whether the row has the body's category and code.
-    fn covers(&self, body: Body<'_>) -> bool
-        ensures { result ≡ has self.now body.entry.category body.entry.code };
+    fn covers(&self, body: &Body<'_>) -> bool
+        ensures { result ≡ has self.now body.now.category body.now.code };
 
     /// What the row makes of the operands behind that code; nothing if it does not admit them.
-    fn read(&self, body: Body<'_>) -> Option<Self::Meaning>
-        ensures { result ≡ reads self.now body.entry.code body.entry.operands.now };
+    fn read(&self, body: &Body<'_>) -> Option<Self::Meaning>
+        ensures { result ≡ reads self.now body.now.code body.now.operands.now };
 }
 
 impl<'a> Body<'a> {

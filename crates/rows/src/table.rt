@@ -34,11 +34,12 @@ impl<F: OperandForm> Row for TableRow<F> {
 
     ghost reads = { row_reads F.makes };
 
-    fn covers(&self, body: Body<'_>) -> bool {
-        body.category == self.category && self.codes.setting(body.code).is_some()
+    fn covers(&self, body: &Body<'_>) -> bool {
+        // The code first: rows differ by it, and a table of them becomes one jump.
+        self.codes.setting(body.code).is_some() && body.category == self.category
     }
 
-    fn read(&self, body: Body<'_>) -> Option<F::Meaning> {
+    fn read(&self, body: &Body<'_>) -> Option<F::Meaning> {
         let setting = self.codes.setting(body.code)?;
         self.form.read(setting, body.operands)
     }

@@ -1,11 +1,9 @@
-use Rattle.std.proofs.Common.{sym, subst}
-use Rattle.rows.specs.Commands.{read_command}
-use Rattle.rows.specs.OneRow.{ByOneRow}
-use Rattle.rows.proofs.OneRow.{read_by_one_row}
+use Rattle.std.proofs.Common.{Ok, rules}
+use Rattle.rows.proofs.OneRow.{as_read}
 use Rattle.rows.proofs.commands.read_command.Goals as goal
 
-pub returns : goal.returns
-unfolding read_command
-returns c =
-    let b = c.args.body.now in
-    record { is = c.find_row.ensures; one_row = subst (ByOneRow b) (sym c.find_row.ensures) (read_by_one_row b) }
+pub returns-in_err-row-clause-one_row : goal.returns-in_err-row-clause-one_row
+returns-in_err-row-clause-one_row c = as_read c.args.body.now c.from_residual.result (search rules)
+
+pub returns-clause-one_row : goal.returns-clause-one_row
+returns-clause-one_row c = as_read c.args.body.now (Ok (c.in_ok-row.row, c.order.result)) (search rules)

@@ -1,0 +1,103 @@
+//! What a command says, before it is an order: small, since it is handed on by what searches the rows.
+
+ghost use Rattle.std.specs.Prelude.{◌≡◌};
+ghost use Rattle.head.specs.Orders.{parts, all_in_range};
+ghost use Rattle.rows.specs.Orders.{to as target_of, order_of};
+
+use head::{Axis, Order, Paces, Setting, Target, Targets};
+
+/// Zoom or focus is to go to a position.
+#[derive(Clone, Copy, Debug, PartialEq, Eq)]
+pub struct Place {
+    pub axis: Axis,
+    pub lens: u8,
+    pub position: i32,
+}
+
+/// Values of pan and tilt, or of their drives, and the paces.
+#[derive(Clone, Copy, Debug, PartialEq, Eq)]
+pub struct PanTilt {
+    pub pan: i32,
+    pub tilt: i32,
+    pub paces: Paces,
+}
+
+/// What a command says.
+#[derive(Clone, Copy, Debug, PartialEq, Eq)]
+pub enum Command {
+    /// A setting alone is to get a value.
+    Set(Target),
+    /// Zoom or focus is to go to a position at a lens pace, and its drive is to stop.
+    Place(Place),
+    /// The drives of pan and tilt are to get values.
+    Drive(PanTilt),
+    /// Pan and tilt are to go to positions, and their drives are to stop.
+    Turn(PanTilt),
+}
+
+const STILL: Paces = Paces {
+    lens: 0,
+    pan: 0,
+    tilt: 0,
+};
+
+pub(crate) fn to(setting: Setting, value: i32) -> Target
+    ensures { result ≡ target_of setting value }
+{
+    Target { setting, value }
+}
+
+impl Command {
+    /// Whether every target of its order is in the range of its setting.
+    #[inline(always)]
+    pub(crate) fn in_range(self) -> bool
+        ensures { result ≡ all_in_range (parts (order_of self).targets) }
+    {
+        match self {
+            Command::Set(target) => target.setting.admits(target.value),
+            // A drive may always be stopped.
+            Command::Place(place) => place.axis.position().admits(place.position),
+            Command::Drive(to) => {
+                Setting::PanDrive.admits(to.pan) && Setting::TiltDrive.admits(to.tilt)
+            }
+            Command::Turn(to) => Setting::Pan.admits(to.pan) && Setting::Tilt.admits(to.tilt),
+        }
+    }
+
+    /// The order that it is.
+    #[tactic(auto, using(crate::specs::Orders::position_and_drive))]
+    #[inline(always)]
+    pub fn order(&self) -> Order
+        ensures { result ≡ order_of self.now }
+    {
+        match *self {
+            Command::Set(target) => Order {
+                targets: Targets::One([target]),
+                paces: STILL,
+            },
+            Command::Place(place) => Order {
+                targets: Targets::Two([
+                    to(place.axis.position(), place.position),
+                    to(place.axis.drive(), 0),
+                ]),
+                paces: Paces {
+                    lens: place.lens,
+                    ..STILL
+                },
+            },
+            Command::Drive(PanTilt { pan, tilt, paces }) => Order {
+                targets: Targets::Two([to(Setting::PanDrive, pan), to(Setting::TiltDrive, tilt)]),
+                paces,
+            },
+            Command::Turn(PanTilt { pan, tilt, paces }) => Order {
+                targets: Targets::Four([
+                    to(Setting::Pan, pan),
+                    to(Setting::Tilt, tilt),
+                    to(Setting::PanDrive, 0),
+                    to(Setting::TiltDrive, 0),
+                ]),
+                paces,
+            },
+        }
+    }
+}
