@@ -1,6 +1,6 @@
 //! The calls on an end: make, byte, tick, open, take off.
 
-ghost use Rattle.std.specs.Prelude.{◌≡◌, ◌<◌, ◌≤◌, [], ◌++◌, length, take, drop, OnOk, IfErr};
+ghost use Rattle.std.specs.Prelude.{◌≡◌, ℕ, Some, ◌<◌, ◌≤◌, [], ◌++◌, length, take, drop, OnOk, IfErr};
 ghost use Rattle.end.specs.Deeds.{Cleared, settled as settled_by};
 ghost use Rattle.end.specs.Faults.{answered, count, opens, refused};
 ghost use Rattle.end.specs.Law.{Keeps};
@@ -8,6 +8,7 @@ ghost use Rattle.end.specs.Outcomes.{ended as ended_by};
 ghost use Rattle.end.specs.Sockets.{number};
 ghost use Rattle.end.specs.States.{meaning, state};
 ghost use Rattle.end.specs.Steps.{Made, Step};
+ghost use Rattle.rules.specs.Replies.{packet as packet_of};
 
 use crate::call::Call;
 use crate::end::End;
@@ -16,7 +17,7 @@ use crate::sending::{ROOM, both, put};
 use crate::socket::{OpenSockets, Sockets, Which};
 use head::{Ending, Endings, Head, Look, Order};
 use rules::{Problem, Reply};
-use wire::{Bytes, Framer};
+use wire::Framer;
 
 // Whether the buffer has room for all that a call sends.
 fn room(out: &[u8]) -> Result<(), Fault>
@@ -50,16 +51,15 @@ fn settle(socket: &mut Option<Order>, ending: Option<Ending>)
     }
 }
 
-// What a socket tells of its ending, if it ended.
-fn ended(header: u8, which: Which, ending: Option<Ending>) -> Bytes
-    ensures told { result ≡ ended_by header (number which) ending }
-    ensures few { length result ≤ 4 }
+// What a socket tells of its ending.
+fn ended(which: Which, ending: Ending) -> Reply
+    ensures told { (header : ℕ) → packet_of header result ≡ ended_by header (number which) (Some ending) }
+    ensures few { (header : ℕ) → length (packet_of header result) ≤ 4 }
 {
     let number = which.number();
     match ending {
-        None => Bytes::new(),
-        Some(Ending::Done) => Reply::Completion(number).packet(header),
-        Some(Ending::Jammed) => Reply::Error(number, Problem::NotExecutable).packet(header),
+        Ending::Done => Reply::Completion(number),
+        Ending::Jammed => Reply::Error(number, Problem::NotExecutable),
     }
 }
 
@@ -71,11 +71,12 @@ fn tell(header: u8, endings: Endings, out: &mut [u8]) -> usize
     ensures untouched { drop result out.new ≡ drop result out.old }
 {
     match (endings.one, endings.two) {
-        (one, None) => put(ended(header, Which::One, one).as_slice(), out),
-        (None, two) => put(ended(header, Which::Two, two).as_slice(), out),
-        (one, two) => {
-            let first = ended(header, Which::One, one);
-            let second = ended(header, Which::Two, two);
+        (None, None) => 0,
+        (Some(one), None) => ended(Which::One, one).send(header, out).unwrap(),
+        (None, Some(two)) => ended(Which::Two, two).send(header, out).unwrap(),
+        (Some(one), Some(two)) => {
+            let first = ended(Which::One, one).packet(header);
+            let second = ended(Which::Two, two).packet(header);
             put(both(first, second).as_slice(), out)
         }
     }
@@ -109,6 +110,7 @@ impl<H: Head> End<H> {
         }
     }
 
+    #[inline(always)]
     fn take_tick(&mut self, out: &mut [u8]) -> Result<usize, Fault>
         ensures step { Step (state self.old) Call.Tick (length out.old) (answered result) (take (count result) out.new) (state self.new) }
         ensures untouched { drop (count result) out.new ≡ drop (count result) out.old }
@@ -137,6 +139,7 @@ impl<H: Head> End<H> {
     }
 
     /// Ticks the head once. Socket 1 and then 2 sends its ending, if its order ended, and closes.
+    #[inline(always)]
     pub fn tick(&mut self, out: &mut [u8]) -> Result<usize, Fault>
         ensures step { Step (state self.old) Call.Tick (length out.old) (answered result) (take (count result) out.new) (state self.new) }
         ensures untouched { drop (count result) out.new ≡ drop (count result) out.old }

@@ -24,22 +24,23 @@ impl<H: Head> End<H> {
         ensures { Worked (cancels (number which)) (state self.old) (state self.new) }
     {
         self.head.drop_slot(which.number());
-        self.sockets.set(which, None);
+        self.sockets.close(which);
     }
 
     /// Gives a slot an order and opens its socket.
-    pub(crate) fn start_command(&mut self, which: Which, order: Order)
-        ensures { Worked (starts (number which) order) (state self.old) (state self.new) }
+    #[inline(always)]
+    pub(crate) fn start_command(&mut self, which: Which, order: &Order)
+        ensures { Worked (starts (number which) order.now) (state self.old) (state self.new) }
     {
         // The head never turns it down: rows admit only targets in range, the slot of a closed socket
         // is idle, and an order that shares a setting was dropped before.
-        let _ = self.head.start(which.number(), &order);
-        self.sockets.set(which, Some(order));
+        let _ = self.head.start(which.number(), order);
+        self.sockets.fill(which, order);
     }
 
     /// Drops the other slot's order, then gives a slot its order.
-    pub(crate) fn displace_command(&mut self, which: Which, order: Order)
-        ensures { Worked (displaces (number which) order) (state self.old) (state self.new) }
+    pub(crate) fn displace_command(&mut self, which: Which, order: &Order)
+        ensures { Worked (displaces (number which) order.now) (state self.old) (state self.new) }
     {
         self.drop_command(which.other());
         self.start_command(which, order);

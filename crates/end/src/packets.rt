@@ -2,12 +2,19 @@
 
 ghost use Rattle.std.specs.Prelude.{◌≡◌, ◌≤◌, length, take, drop, Ok};
 ghost use Rattle.end.specs.Outcomes.{own, own_header as own_header_of, taken as taken_by, commanded as commanded_by, requested as requested_by, cancelled as cancelled_by, met as met_by};
-ghost use Rattle.end.specs.Sockets.{number};
+ghost use Rattle.end.specs.Sockets.{number, powering_in};
 ghost use Rattle.end.specs.States.{state};
 ghost use Rattle.end.specs.Steps.{Came};
 ghost use Rattle.end.specs.Faults.{answered as answered_of, count, counts};
+ghost use Rattle.rules.specs.Modes.{forbidden_by};
 ghost use Rattle.rules.specs.Ring.{rule_of};
-ghost use Rattle.rows.specs.Requests.{read_body};
+ghost use Rattle.rows.specs.Requests.{as_command, as_inquiry, read_body};
+ghost use Rattle.rows.specs.Commands.{read_command as command_read};
+ghost use Rattle.rows.specs.Orders.{order_of};
+ghost use Rattle.rows.specs.Inquiries.{read_inquiry as inquiry_read};
+ghost use Rattle.rules.specs.declared.reply.Reply.TheVariants.{Error};
+ghost use Rattle.rules.specs.declared.reply.Problem.TheVariants.{Syntax};
+ghost use Rattle.end.specs.declared.fault.Cause.TheVariants.{Packet as PacketF};
 ghost use Rattle.wire.specs.Framing.{bytes_of};
 
 use crate::end::End;
@@ -15,7 +22,7 @@ use crate::fault::{Cause, Fault};
 use crate::sending::{both, put};
 use crate::socket::Which;
 use head::{Head, Order};
-use rows::{Request, answer, read};
+use rows::{COMMAND, Command, INQUIRY, PacketFault, answer, find_command, read_inquiry};
 use rules::{Problem, Reply, Rule, forbidden};
 use wire::Packet;
 
@@ -39,15 +46,22 @@ impl<H: Head> End<H> {
         reply.send(self.own_header(), out).unwrap()
     }
 
+    // Whether a mode forbids a command, or the head lacks what it needs.
+    fn forbids(&self, order: &Order) -> bool
+        ensures { result ≡ forbidden_by (H.Look.setting self.now.head) (H.Look.pantilt self.now.head) (powering_in self.now.sockets) order.now }
+    {
+        forbidden(&self.head, self.sockets.powering_on(), order)
+    }
+
     // A command for a socket, with the other's displaced where it names a common setting.
-    fn accept(&mut self, which: Which, order: Order, out: &mut [u8]) -> usize
+    fn accept(&mut self, which: Which, order: &Order, out: &mut [u8]) -> usize
         requires { 16 ≤ length out.old }
-        ensures came { Came (state self.old) (state self.old).held (taken_by self.old.address self.old.sockets (number which) order) (counts result) (take result out.new) (state self.new) }
+        ensures came { Came (state self.old) (state self.old).held (taken_by self.old.address self.old.sockets (number which) order.now) (counts result) (take result out.new) (state self.new) }
         ensures untouched { drop result out.new ≡ drop result out.old }
     {
         let other = which.other();
         let taken = Reply::Acknowledgement(which.number());
-        if !self.sockets.shares_setting(other, &order) {
+        if !self.sockets.shares_setting(other, order) {
             self.start_command(which, order);
             return self.send(taken, out);
         }
@@ -61,18 +75,20 @@ impl<H: Head> End<H> {
     }
 
     // An admitted command.
-    fn command(&mut self, order: Order, out: &mut [u8]) -> usize
+    fn command(&mut self, command: &Command, out: &mut [u8]) -> usize
         requires { 16 ≤ length out.old }
-        ensures came { Came (state self.old) (state self.old).held (commanded_by self.old.address (state self.old).head self.old.sockets order) (counts result) (take result out.new) (state self.new) }
+        ensures came { Came (state self.old) (state self.old).held (commanded_by self.old.address (state self.old).head self.old.sockets (order_of command.now)) (counts result) (take result out.new) (state self.new) }
         ensures untouched { drop result out.new ≡ drop result out.old }
     {
         if self.sockets.full() {
             return self.send(Reply::Error(0, Problem::BufferFull), out);
         }
-        if forbidden(&self.head, self.sockets.powering_on(), &order) {
+        let order = command.order();
+        if self.forbids(&order) {
             return self.send(Reply::Error(0, Problem::NotExecutable), out);
         }
-        self.accept(self.sockets.free(), order, out)
+        let which = self.sockets.free();
+        self.accept(which, &order, out)
     }
 
     // A cancel of the command in the socket with this number.
@@ -90,36 +106,73 @@ impl<H: Head> End<H> {
         }
     }
 
-    fn serve(&mut self, request: Request, out: &mut [u8]) -> usize
+    // Says that a packet cannot be read, and why.
+    fn refuse(&self, fault: PacketFault, out: &mut [u8]) -> Fault
         requires { 16 ≤ length out.old }
-        ensures came { Came (state self.old) (state self.old).held (requested_by self.old.address (state self.old).head self.old.sockets (Ok request)) (counts result) (take result out.new) (state self.new) }
-        ensures untouched { drop result out.new ≡ drop result out.old }
+        ensures fault { result ≡ record { cause = PacketF fault; sent = 4 } }
+        ensures front { take 4 out.new ≡ own self.now.address (Error 0 Syntax) }
+        ensures untouched { drop 4 out.new ≡ drop 4 out.old }
     {
-        match request {
-            Request::Command(_, order) => self.command(order, out),
-            Request::Ask(inquiry) => answer(&self.head, inquiry, self.own_header(), out).unwrap(),
+        Fault {
+            cause: Cause::Packet(fault),
+            sent: self.send(Reply::Error(0, Problem::Syntax), out),
+        }
+    }
+
+    // A command, behind its first byte.
+    #[inline(never)]
+    fn commanded(&mut self, rest: &[u8], out: &mut [u8]) -> Result<usize, Fault>
+        requires { 16 ≤ length out.old }
+        ensures came { Came (state self.old) (state self.old).held (requested_by self.old.address (state self.old).head self.old.sockets (as_command (command_read rest.now))) (answered_of result) (take (count result) out.new) (state self.new) }
+        ensures untouched { drop (count result) out.new ≡ drop (count result) out.old }
+    {
+        match find_command(rest) {
+            Ok((_, command)) => Ok(self.command(&command, out)),
+            Err(fault) => Err(self.refuse(fault.into(), out)),
+        }
+    }
+
+    // An inquiry, behind its first byte.
+    #[inline(always)]
+    fn asked(&mut self, rest: &[u8], out: &mut [u8]) -> Result<usize, Fault>
+        requires { 16 ≤ length out.old }
+        ensures came { Came (state self.old) (state self.old).held (requested_by self.old.address (state self.old).head self.old.sockets (as_inquiry (inquiry_read rest.now))) (answered_of result) (take (count result) out.new) (state self.new) }
+        ensures untouched { drop (count result) out.new ≡ drop (count result) out.old }
+    {
+        match read_inquiry(rest) {
+            Ok((_, inquiry)) => Ok(answer(&self.head, inquiry, self.own_header(), out).unwrap()),
+            Err(fault) => Err(self.refuse(fault.into(), out)),
         }
     }
 
     // A body that the rows read, or say what is wrong with.
+    #[inline(always)]
     fn request(&mut self, body: &[u8], out: &mut [u8]) -> Result<usize, Fault>
         requires { 16 ≤ length out.old }
         ensures came { Came (state self.old) (state self.old).held (requested_by self.old.address (state self.old).head self.old.sockets (read_body body.now)) (answered_of result) (take (count result) out.new) (state self.new) }
         ensures untouched { drop (count result) out.new ≡ drop (count result) out.old }
     {
-        match read(body) {
-            Ok(request) => Ok(self.serve(request, out)),
-            Err(fault) => Err(Fault {
-                cause: Cause::Packet(fault),
-                sent: self.send(Reply::Error(0, Problem::Syntax), out),
-            }),
+        match body {
+            [COMMAND, rest @ ..] => self.commanded(rest, out),
+            [INQUIRY, rest @ ..] => self.asked(rest, out),
+            _ => Err(self.refuse(PacketFault::UnknownBody, out)),
         }
     }
 
-    /// A whole packet, by the first rule of the ring that it meets: what it sends, or what is wrong with its body.
-    /// Most bytes make none whole, so that this is kept apart from what every byte does.
-    #[inline(never)]
+    /// What comes of a whole packet. Most bytes make none whole, so that it is kept apart from what every byte does,
+    /// and so is room for its answer: it is made here, and not where bytes are taken.
+    #[inline(always)]
     pub(crate) fn meet(&mut self, packet: &Packet, out: &mut [u8]) -> Result<usize, Fault>
+        requires { 16 ≤ length out.old }
+        ensures came { Came (state self.old) (state self.old).held (met_by self.old.address (state self.old).head self.old.sockets (bytes_of packet.now) (rule_of self.old.address (bytes_of packet.now))) (answered_of result) (take (count result) out.new) (state self.new) }
+        ensures untouched { drop (count result) out.new ≡ drop (count result) out.old }
+    {
+        self.by_rule(packet, out)
+    }
+
+    // The same, by the first rule of the ring that the packet meets: what it sends, or what is wrong with its body.
+    #[inline(never)]
+    fn by_rule(&mut self, packet: &Packet, out: &mut [u8]) -> Result<usize, Fault>
         requires { 16 ≤ length out.old }
         ensures came { Came (state self.old) (state self.old).held (met_by self.old.address (state self.old).head self.old.sockets (bytes_of packet.now) (rule_of self.old.address (bytes_of packet.now))) (answered_of result) (take (count result) out.new) (state self.new) }
         ensures untouched { drop (count result) out.new ≡ drop (count result) out.old }

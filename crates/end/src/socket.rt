@@ -1,9 +1,9 @@
 //! The two sockets, in which commands are at work.
 
-ghost use Rattle.std.specs.Prelude.{◌≡◌};
+ghost use Rattle.std.specs.Prelude.{◌≡◌, Some, None};
 ghost use Rattle.end.specs.Deeds.{other as other_of};
 ghost use Rattle.end.specs.Sockets.{is_open, number as number_of, numbered, socket_at, with_socket, full as full_of, free as free_of, powering_in};
-ghost use Rattle.head.specs.Meaning.{in_use};
+ghost use Rattle.head.specs.Meaning.{in_use, lent};
 
 use head::Order;
 use rules::powers_on;
@@ -75,37 +75,47 @@ impl Sockets {
         two: None,
     };
 
-    pub(crate) fn get(self, which: Which) -> Option<Order>
-        ensures { result ≡ socket_at self (number_of which) }
+    pub(crate) fn get(&self, which: Which) -> Option<&Order>
+        ensures { lent result ≡ socket_at self.now (number_of which) }
     {
         match which {
-            Which::One => self.one,
-            Which::Two => self.two,
+            Which::One => self.one.as_ref(),
+            Which::Two => self.two.as_ref(),
         }
     }
 
-    /// Gives this socket another content.
-    pub(crate) fn set(&mut self, which: Which, socket: Option<Order>)
-        ensures { self.new ≡ with_socket self.old (number_of which) socket }
+    /// Opens this socket, with the order of its command.
+    pub(crate) fn fill(&mut self, which: Which, order: &Order)
+        ensures { self.new ≡ with_socket self.old (number_of which) (Some order.now) }
     {
         match which {
-            Which::One => self.one = socket,
-            Which::Two => self.two = socket,
+            Which::One => self.one = Some(*order),
+            Which::Two => self.two = Some(*order),
+        }
+    }
+
+    /// Closes this socket.
+    pub(crate) fn close(&mut self, which: Which)
+        ensures { self.new ≡ with_socket self.old (number_of which) None }
+    {
+        match which {
+            Which::One => self.one = None,
+            Which::Two => self.two = None,
         }
     }
 
     /// Whether the order in a socket names a setting of this one.
-    pub(crate) fn shares_setting(self, which: Which, order: &Order) -> bool
-        ensures { result ≡ in_use (socket_at self (number_of which)) order.now }
+    pub(crate) fn shares_setting(&self, which: Which, order: &Order) -> bool
+        ensures { result ≡ in_use (socket_at self.now (number_of which)) order.now }
     {
         self.get(which)
-            .is_some_and(|held| order.shares_setting(&held))
+            .is_some_and(|held| order.shares_setting(held))
     }
 
     /// Which are open.
-    pub(crate) fn open(self) -> OpenSockets
-        ensures one { result.one ≡ is_open self.one }
-        ensures two { result.two ≡ is_open self.two }
+    pub(crate) fn open(&self) -> OpenSockets
+        ensures one { result.one ≡ is_open self.now.one }
+        ensures two { result.two ≡ is_open self.now.two }
     {
         OpenSockets {
             one: self.one.is_some(),
@@ -114,23 +124,23 @@ impl Sockets {
     }
 
     /// Whether both are open.
-    pub(crate) fn full(self) -> bool
-        ensures { result ≡ full_of self }
+    pub(crate) fn full(&self) -> bool
+        ensures { result ≡ full_of self.now }
     {
         self.one.is_some() && self.two.is_some()
     }
 
     /// Whether the order of one of them switches power on.
-    pub(crate) fn powering_on(self) -> bool
-        ensures { result ≡ powering_in self }
+    pub(crate) fn powering_on(&self) -> bool
+        ensures { result ≡ powering_in self.now }
     {
-        self.one.is_some_and(|held| powers_on(&held))
-            || self.two.is_some_and(|held| powers_on(&held))
+        self.one.as_ref().is_some_and(|held| powers_on(held))
+            || self.two.as_ref().is_some_and(|held| powers_on(held))
     }
 
     /// The socket that a command gets: 1 if it is closed, else 2.
-    pub(crate) fn free(self) -> Which
-        ensures { number_of result ≡ free_of self }
+    pub(crate) fn free(&self) -> Which
+        ensures { number_of result ≡ free_of self.now }
     {
         if self.one.is_some() {
             Which::Two
