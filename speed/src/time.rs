@@ -3,14 +3,14 @@
 use crate::calls::{Kind, TICK, bytes};
 use crate::plain::plain_time;
 use crate::proved;
-use crate::traffic::lecture_calls;
+use crate::traffic::{lecture_calls, lecture_without_ticks};
 use std::hint::black_box;
 use std::time::Instant;
 
-/// Bytes weigh most in the first list, ticks in the second.
+/// The lecture as it was recorded, and with each stretch of ticks thirty times as long.
 const STRETCHES: [usize; 2] = [1, 30];
 
-/// A list by name, for callgrind: `bytes` and `ticks`, from which what a byte and a tick cost follows.
+/// A list by name, for callgrind: `bytes` is the lecture, `ticks` the same with more ticks, a number a row's packets.
 pub fn list(name: &str) -> Vec<u16> {
     match name {
         "bytes" => lecture_calls(STRETCHES[0]),
@@ -61,16 +61,6 @@ fn both(kind: Kind, calls: &[u16], rounds: usize) -> [f64; 2] {
     taken.map(median)
 }
 
-/// What a byte and a tick cost, by two lists with different shares of them.
-fn solved(lists: [[f64; 2]; 2], costs: [f64; 2]) -> [f64; 2] {
-    let [[b, t], [c, u]] = lists;
-    let det = b * u - t * c;
-    [
-        (costs[0] * u - costs[1] * t) / det,
-        (b * costs[1] - c * costs[0]) / det,
-    ]
-}
-
 fn row(name: &str, [plain, proved]: [f64; 2]) {
     println!(
         "{name:<34} {plain:>9.2} {proved:>9.2} {:>7.2}",
@@ -84,17 +74,16 @@ pub fn time(rounds: usize) {
         "nanoseconds", "plain", "proved", "ratio"
     );
     for kind in Kind::ALL {
-        let lists = STRETCHES.map(lecture_calls);
-        let counts = [counted(&lists[0]), counted(&lists[1])];
-        let taken = [both(kind, &lists[0], rounds), both(kind, &lists[1], rounds)];
-        let [plain, proved] = [0, 1].map(|end| solved(counts, [taken[0][end], taken[1][end]]));
-        row(&format!("{kind:?}, a byte"), [plain[0], proved[0]]);
-        row(&format!("{kind:?}, a tick"), [plain[1], proved[1]]);
-        let all = counts[0][0] + counts[0][1];
-        row(
-            &format!("{kind:?}, a call of the lecture"),
-            taken[0].map(|ns| ns / all),
-        );
+        let silent = lecture_without_ticks();
+        let [few, many] = STRETCHES.map(lecture_calls);
+        let added = (many.len() - few.len()) as f64;
+        let alone = both(kind, &silent, rounds).map(|ns| ns / silent.len() as f64);
+        let [some, more] = [&few, &many].map(|calls| both(kind, calls, rounds));
+        row(&format!("{kind:?}, a byte, no ticks between"), alone);
+        let tick = [0, 1].map(|end| (more[end] - some[end]) / added);
+        row(&format!("{kind:?}, a tick that is added"), tick);
+        let call = some.map(|ns| ns / few.len() as f64);
+        row(&format!("{kind:?}, a call of the lecture"), call);
     }
 }
 

@@ -223,3 +223,20 @@ pub fn lecture_calls(stretch: usize) -> Vec<u16> {
     }
     calls
 }
+
+/// The bytes of the lecture with no tick between them. Nothing is ever done then, so that the line is cleared after
+/// every second command, and the next one finds both sockets closed.
+pub fn lecture_without_ticks() -> Vec<u16> {
+    let mut calls = Vec::new();
+    let mut commands = 0;
+    for line in lecture() {
+        let Line::Bytes(packet) = line else { continue };
+        calls.extend(bytes(&packet));
+        commands += usize::from(packet.starts_with(&[0x81, 0x01]));
+        if commands == 2 {
+            calls.extend(bytes(&[0x81, 0x01, 0x00, 0x01, 0xff]));
+            commands = 0;
+        }
+    }
+    calls
+}

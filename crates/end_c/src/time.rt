@@ -16,10 +16,13 @@ fn play<H: Head + Drop>(head: H, calls: &[u16]) -> u64 {
     let mut sum: u64 = 0;
     for number in calls {
         // The numbers of `Asked`, read here since a clock sees every step.
-        let count = match *number % 512 {
-            byte @ 0..=255 => bytes_sent(end.byte(byte as u8, &mut buffer)),
-            256 => tick(&mut end, &mut buffer),
-            _ => usize::from(end.open().one),
+        let asked = *number % 512;
+        let count = if asked < 256 {
+            bytes_sent(end.byte(asked as u8, &mut buffer))
+        } else if asked == 256 {
+            tick(&mut end, &mut buffer)
+        } else {
+            usize::from(end.open().one)
         };
         sum = sum
             .wrapping_mul(31)

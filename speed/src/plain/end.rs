@@ -299,6 +299,7 @@ impl<H: Head> End<H> {
         self.station.packet(&self.framer.bytes[..=last], out)
     }
 
+    #[inline(always)]
     pub fn tick(&mut self, out: &mut [u8]) -> Result<usize, Fault> {
         if out.len() < 16 {
             return Err(SHORT_BUFFER);

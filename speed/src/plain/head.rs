@@ -310,6 +310,7 @@ impl<const BLOCK: bool> Head for Camera<BLOCK> {
         Ok(())
     }
 
+    #[inline(always)]
     fn tick(&mut self) -> [Option<Ending>; 2] {
         if !self.stalled {
             self.drive();
