@@ -35,7 +35,8 @@ pub enum Command {
     Turn(PanTilt),
 }
 
-const STILL: Paces = Paces {
+/// No pace.
+pub(crate) const STILL: Paces = Paces {
     lens: 0,
     pan: 0,
     tilt: 0,

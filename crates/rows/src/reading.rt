@@ -3,16 +3,10 @@
 ghost use Rattle.std.specs.Prelude.{◌≡◌, pos};
 ghost use Rattle.rows.specs.Reading.{ranged as ranged_by, alone as alone_by, digit as digit_by, pushed as pushed_by, turned as turned_by, driven as driven_by, placed as placed_by, placed_at as placed_at_by, level as level_by, number as number_by, turning as turning_by, steered as steered_by, pan_tilt_driven as pan_tilt_driven_by, pan_tilt as pan_tilt_by, pan_tilt_placed as pan_tilt_placed_by, home as home_by, reads};
 
-use crate::command::{Command, PanTilt, Place};
+use crate::command::{Command, PanTilt, Place, STILL};
 use crate::digits::{signed, word};
 use crate::operands::{OperandForm, Operands, Sense};
 use head::{Axis, Paces, Setting, Target};
-
-const STILL: Paces = Paces {
-    lens: 0,
-    pan: 0,
-    tilt: 0,
-};
 
 // A command, if every target of its order is in range.
 #[tactic(auto, unfolding(crate::specs::Reading::ranged))]
