@@ -1,9 +1,9 @@
 //! What a call on the end answers, in words: the bytes that it sent, and its fault if there is one.
 
 use end::{Fault, bytes_sent};
+use fault::FaultCode;
 use hexadecimal::Hex;
 use std::fmt;
-use wire::FaultCode;
 
 /// A fault or none, and the bytes sent.
 #[derive(Clone, Copy, Debug, PartialEq, Eq)]

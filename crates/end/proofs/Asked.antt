@@ -29,11 +29,11 @@ digits_plain v rest small h =
     (first_digit n (few_bits v small), (digit (n / 256), (digit (n / 16), (digit n, h))))
 
 module _ (f : Setting → ℤ) (pt : Bool) where
-  pan_tilt_plain : ((t : Setting) → Small (f t)) → (b : Bool) → Plain (inquiry.told PanTilt f Pan b)
+  pan_tilt_plain : ((t : Setting) → Small (f t)) → (b : Bool) → Plain (inquiry.answer_body PanTilt f Pan b)
   pan_tilt_plain small true = (refl, digits_plain (f Pan) (digits (bits (f Tilt))) (small Pan) (digits_plain (f Tilt) [] (small Tilt) tt))
   pan_tilt_plain small false = (refl, (refl, tt))
 
-  pub told_plain : ((t : Setting) → Small (f t)) → (form : Form) (q : Setting) → Plain (inquiry.told form f q pt)
+  pub told_plain : ((t : Setting) → Small (f t)) → (form : Form) (q : Setting) → Plain (inquiry.answer_body form f q pt)
   told_plain small Digit q = (refl, (digit (bits (f q)), tt))
   told_plain small Level q = (refl, (refl, (refl, (digit (bits (f q) / 16), (digit (bits (f q)), tt)))))
   told_plain small Number q = (refl, digits_plain (f q) [] (small q) tt)
@@ -44,11 +44,11 @@ module _ (f : Setting → ℤ) (pt : Bool) where
     pub some : 1 ≤ length t
     pub few : length t ≤ 14
 
-  pan_tilt_fits : (b : Bool) → Fits (inquiry.told PanTilt f Pan b)
+  pan_tilt_fits : (b : Bool) → Fits (inquiry.answer_body PanTilt f Pan b)
   pan_tilt_fits true = record { some = omega arith; few = omega arith }
   pan_tilt_fits false = record { some = omega arith; few = omega arith }
 
-  pub told_fits : (form : Form) (q : Setting) → Fits (inquiry.told form f q pt)
+  pub told_fits : (form : Form) (q : Setting) → Fits (inquiry.answer_body form f q pt)
   told_fits Digit q = record { some = omega arith; few = omega arith }
   told_fits Level q = record { some = omega arith; few = omega arith }
   told_fits Number q = record { some = omega arith; few = omega arith }

@@ -6,7 +6,7 @@ use Rattle.std.proofs.lemmas.List.{append-nil}
 use Rattle.end.specs.declared.socket.Sockets.{Sockets}
 use Rattle.end.specs.Book.{Seen, closed, working, other as nothing_said}
 use Rattle.end.specs.Deeds.{DidHead, sockets_after, clears, starts, displaces, Given}
-use Rattle.end.specs.Law.{ordered, read_as}
+use Rattle.end.specs.Law.{order_asked, read_as}
 use Rattle.end.specs.Outcomes.{Outcome, own_header, own, sends, does, taken, requested, cancelled}
 use Rattle.end.specs.Sockets.{full, free, powering_in, socket_at}
 use Rattle.end.specs.States.{State}
@@ -21,7 +21,7 @@ use Rattle.head.specs.declared.setting.Setting.TheVariants.{Pan}
 use Rattle.head.specs.Meaning.{Meaning, Slot, Slots, idle, busy, order_in, reason, refusal, in_use, Holds}
 use Rattle.head.specs.Orders.{parts, all_in_range, any_pan_tilt}
 use Rattle.head.specs.Settings.{Small}
-use Rattle.rows.specs.declared.fault.PacketFault.{PacketFault}
+use Rattle.rows.specs.declared.faults.PacketFault.{PacketFault}
 use Rattle.rows.specs.declared.inquiries.Form.{Form}
 use Rattle.rows.specs.declared.inquiries.Form.TheVariants.{Digit, Level, Number, PanTilt}
 use Rattle.rows.specs.declared.inquiries.Inquiry.{Inquiry}
@@ -225,20 +225,20 @@ module _ (f : Setting → ℤ) (pt : Bool) (a : ℕ) (p sent : List ℕ) (s' : S
         replied (Error y NoSocket) (no_socket_said 1 y) (no_socket_said 2 y) t₁ t₂ (subst (λ (o : Outcome). Done o x₁ x₂ c₁ c₂) r d)
 
     -- an inquiry
-    pan_tilt_other : (b : Bool) → (behind 1 (inquiry.told PanTilt f Pan b ++ 0xff ∷ []) ≡ nothing_said) × (behind 2 (inquiry.told PanTilt f Pan b ++ 0xff ∷ []) ≡ nothing_said)
+    pan_tilt_other : (b : Bool) → (behind 1 (inquiry.answer_body PanTilt f Pan b ++ 0xff ∷ []) ≡ nothing_said) × (behind 2 (inquiry.answer_body PanTilt f Pan b ++ 0xff ∷ []) ≡ nothing_said)
     pan_tilt_other true = (refl, refl)
     pan_tilt_other false = (refl, refl)
 
-    told_other : (form : Form) (q : Setting) → (behind 1 (inquiry.told form f q pt ++ 0xff ∷ []) ≡ nothing_said) × (behind 2 (inquiry.told form f q pt ++ 0xff ∷ []) ≡ nothing_said)
+    told_other : (form : Form) (q : Setting) → (behind 1 (inquiry.answer_body form f q pt ++ 0xff ∷ []) ≡ nothing_said) × (behind 2 (inquiry.answer_body form f q pt ++ 0xff ∷ []) ≡ nothing_said)
     told_other Digit q = (refl, refl)
     told_other Level q = (refl, refl)
     told_other Number q = (refl, refl)
     told_other PanTilt q = pan_tilt_other pt
 
     inquire : {l₁ l₂ : Seen} {x₁ x₂ : Option Order} {c₁ c₂ : Slot} (q : Inquiry) → ((t : Setting) → Small (f t)) → Tied l₁ x₁ c₁ → Tied l₂ x₂ c₂ →
-        Done (sends a (inquiry.answered (own_header a) q f pt)) x₁ x₂ c₁ c₂ → After a p l₁ l₂ sent f s'
+        Done (sends a (inquiry.answer_packet (own_header a) q f pt)) x₁ x₂ c₁ c₂ → After a p l₁ l₂ sent f s'
     inquire {l₁} {l₂} q small t₁ t₂ d =
-        let t = inquiry.told q.form f q.setting pt in
+        let t = inquiry.answer_body q.form f q.setting pt in
         let plain = told_plain f pt small q.form q.setting in
         quiet (own_header a ∷ (t ++ 0xff ∷ []))
         (read_own_other a 1 p t l₁ low has plain (told_other q.form q.setting).0)
@@ -248,6 +248,6 @@ module _ (f : Setting → ℤ) (pt : Bool) (a : ℕ) (p sent : List ℕ) (s' : S
     pub request : {l₁ l₂ : Seen} {x₁ x₂ : Option Order} {c₁ c₂ : Slot} (r : Result Request PacketFault) → read_body (body_of p) ≡ r → ((t : Setting) → Small (f t)) → Tied l₁ x₁ c₁ → Tied l₂ x₂ c₂ →
         Done (requested a (head_of c₁ c₂) (both x₁ x₂) r) x₁ x₂ c₁ c₂ → After a p l₁ l₂ sent f s'
     request {x₁ = x₁} {x₂ = x₂} (Ok (Command row o)) e small t₁ t₂ d =
-        command (forbidden_by f pt (powering_in (both x₁ x₂)) o) o (ap ordered e) (body_in_range (body_of p) row o e) refl t₁ t₂ d
+        command (forbidden_by f pt (powering_in (both x₁ x₂)) o) o (ap order_asked e) (body_in_range (body_of p) row o e) refl t₁ t₂ d
     request (Ok (Ask q)) e small t₁ t₂ d = inquire q small t₁ t₂ d
     request (Err f) e small t₁ t₂ d = replied (Error 0 Syntax) refl refl t₁ t₂ (record { packets = d.packets; head = d.head; sockets = d.sockets })

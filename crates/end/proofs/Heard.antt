@@ -38,7 +38,7 @@ pub data Heard : Standing → end.Held → Option (List ℕ) → end.Event → T
   packet : {p : List ℕ} → Whole p → Heard between end.none (Some p) (Ok (Some p))
 
 abbrev HeardAt : Standing → end.Held → ℕ → Type 0
-HeardAt f h b = Heard (standing_after f b) (end.next h b) (made_whole f b) (end.event h b)
+HeardAt f h b = Heard (standing_after f b) (end.held_after h b) (made_whole f b) (end.event h b)
 
 -- a byte between packets
 start : (b : ℕ) (t : Bool) → is_header b ≡ t → (leb 0x80 b && ltb b 0xff) ≡ t → HeardAt between end.none b

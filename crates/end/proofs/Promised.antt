@@ -3,7 +3,7 @@ use Rattle.std.proofs.Common.{◌≡◌, ℕ, ◌+◌, ◌*◌, ◌/◌, ◌%◌
 use Rattle.std.proofs.lemmas.Bool.{true≢false, eqb-false, eq-eqb, ne_eqb, le-leb, lt-ltb}
 use Rattle.end.specs.declared.call.Call.{Call}
 use Rattle.end.specs.declared.call.Call.TheVariants.{Byte, Tick, Open}
-use Rattle.end.specs.Book.{Book, Entry, Standing, between, inside, Seen, closed, working, Word, acknowledges, ends, other, word, told, cut, reads, receives, ages, notes, made_whole, standing_after, clearing, accepted, enters, book_of}
+use Rattle.end.specs.Book.{Book, Entry, Standing, between, inside, Seen, closed, working, Said, acknowledges, ends, other, said_of, seen_after_said, cut, seen_after_replies, with_packet, after_tick, before_replies, made_whole, standing_after, clearing, accepted, after_call, book_of}
 use Rattle.end.specs.declared.socket.Sockets.{Sockets}
 use Rattle.end.specs.Deeds.{cancels}
 use Rattle.end.specs.Faults.{Answer, counts}
@@ -24,7 +24,7 @@ use Rattle.rules.specs.declared.reply.Reply.TheVariants.{Error}
 use Rattle.rules.specs.declared.ring.Rule.{Rule}
 use Rattle.rules.specs.declared.ring.Rule.TheVariants.{Cancelled}
 use Rattle.rules.specs.Ring.{rule_of}
-use Rattle.wire.specs.Framing.{Held, none, begun, next, Event, event}
+use Rattle.wire.specs.Framing.{Held, none, begun, held_after, Event, event}
 
 -- An open socket stays open until an ending or a clearing.
 
@@ -32,39 +32,39 @@ working_open : (x : Seen) (p : List ℕ) (n : ℕ) → x ≡ working p n → ope
 working_open x p n e = rw e refl
 
 -- over the packets that were sent
-still_working : (a y : ℕ) (p q : List ℕ) (n : ℕ) (qs : List (List ℕ)) (x : Seen) → x ≡ working q n → InOrder a y p qs x → Ending a y qs ⊎ (reads a y p qs x ≡ working q n)
+still_working : (a y : ℕ) (p q : List ℕ) (n : ℕ) (qs : List (List ℕ)) (x : Seen) → x ≡ working q n → InOrder a y p qs x → Ending a y qs ⊎ (seen_after_replies a y p qs x ≡ working q n)
 still_working a y p q n [] x e d = inr e
-still_working a y p q n (t ∷ qs) x e d = by (word a y t) refl (still_working a y p q n qs x e) where
-  by : (w : Word) → word a y t ≡ w → (InOrder a y p qs x → Ending a y qs ⊎ (reads a y p qs x ≡ working q n)) → Ending a y (t ∷ qs) ⊎ (reads a y p (t ∷ qs) x ≡ working q n)
-  by acknowledges h next =
-      let due : open_by x ≡ false = subst (λ (v : Word). Due v x) h d.0 in
+still_working a y p q n (t ∷ qs) x e d = by (said_of a y t) refl (still_working a y p q n qs x e) where
+  by : (w : Said) → said_of a y t ≡ w → (InOrder a y p qs x → Ending a y qs ⊎ (seen_after_replies a y p qs x ≡ working q n)) → Ending a y (t ∷ qs) ⊎ (seen_after_replies a y p (t ∷ qs) x ≡ working q n)
+  by acknowledges h held_after =
+      let due : open_by x ≡ false = subst (λ (v : Said). Due v x) h d.0 in
       absurd (true≢false (sym (working_open x q n e) ∙ due))
-  by ends h next = inl (inl h)
-  by other h next = elim (next (subst (λ (v : Word). InOrder a y p qs (told p v x)) h d.1)) [
+  by ends h held_after = inl (inl h)
+  by other h held_after = elim (held_after (subst (λ (v : Said). InOrder a y p qs (seen_after_said p v x)) h d.1)) [
     | inl f ↦ inl (inr f)
-    | inr g ↦ inr (ap (λ (v : Word). reads a y p qs (told p v x)) h ∙ g)
+    | inr g ↦ inr (ap (λ (v : Said). seen_after_replies a y p qs (seen_after_said p v x)) h ∙ g)
   ]
 
 -- over what the book notes of the call
 module _ (k : Book) (y : ℕ) (number : Number y) (p : List ℕ) (n : ℕ) (at : seen_at k y ≡ working p n) where
-  received : {y : ℕ} → Number y → (st : Standing) (q : List ℕ) (t : Bool) → clearing k.address q ≡ t → (t ≡ true) ⊎ (seen_at (receives k st (Some q)) y ≡ seen_at k y)
+  received : {y : ℕ} → Number y → (st : Standing) (q : List ℕ) (t : Bool) → clearing k.address q ≡ t → (t ≡ true) ⊎ (seen_at (with_packet k st (Some q)) y ≡ seen_at k y)
   received num st q true e = inl refl
   received one st q false e = inr (rw e refl)
   received two st q false e = inr (rw e refl)
 
-  heard_whole : {y : ℕ} → Number y → (st : Standing) → seen_at (receives k st None) y ≡ seen_at k y
+  heard_whole : {y : ℕ} → Number y → (st : Standing) → seen_at (with_packet k st None) y ≡ seen_at k y
   heard_whole one st = refl
   heard_whole two st = refl
 
-  heard : (st : Standing) (w : Option (List ℕ)) → ClearedBy k.address w ⊎ (seen_at (receives k st w) y ≡ working p n)
+  heard : (st : Standing) (w : Option (List ℕ)) → ClearedBy k.address w ⊎ (seen_at (with_packet k st w) y ≡ working p n)
   heard st None = inr (heard_whole number st ∙ at)
   heard st (Some q) = elim (received number st q (clearing k.address q) refl) [ inl c ↦ inl c | inr g ↦ inr (g ∙ at) ]
 
-  aged : {y : ℕ} → Number y → seen_at k y ≡ working p n → seen_at (ages k) y ≡ working p (n + 1)
+  aged : {y : ℕ} → Number y → seen_at k y ≡ working p n → seen_at (after_tick k) y ≡ working p (n + 1)
   aged one e = rw e refl
   aged two e = rw e refl
 
-  noted : (c : Call) (room : ℕ) → accepted c room ≡ true → Clearing k c ⊎ (seen_at (notes k c) y ≡ working p (n + counted c room))
+  noted : (c : Call) (room : ℕ) → accepted c room ≡ true → Clearing k c ⊎ (seen_at (before_replies k c) y ≡ working p (n + counted c room))
   noted (Byte b) room t = elim (heard (standing_after k.standing b) (made_whole k.standing b)) [
     | inl c ↦ inl c
     | inr g ↦ inr (g ∙ ap (λ (z : ℕ). working p z) (sym (add-zero n)))
@@ -74,12 +74,12 @@ module _ (k : Book) (y : ℕ) (number : Number y) (p : List ℕ) (n : ℕ) (at :
 
   -- over the call
   read_at : {y : ℕ} → Number y → (e : Entry) → accepted e.call e.room ≡ true →
-      seen_at (enters k e) y ≡ reads (notes k e.call).address y (notes k e.call).last (cut e.sent) (seen_at (notes k e.call) y)
+      seen_at (after_call k e) y ≡ seen_after_replies (before_replies k e.call).address y (before_replies k e.call).last (cut e.sent) (seen_at (before_replies k e.call) y)
   read_at one e t = rw t refl
   read_at two e t = rw t refl
 
   order_at : {y : ℕ} → Number y → (s : State) (e : Entry) (a : Answer) (s' : State) → Law k s e a s' → accepted e.call e.room ≡ true →
-      InOrder (notes k e.call).address y (notes k e.call).last (cut e.sent) (seen_at (notes k e.call) y)
+      InOrder (before_replies k e.call).address y (before_replies k e.call).last (cut e.sent) (seen_at (before_replies k e.call) y)
   order_at one s e a s' l t = l.order_one t
   order_at two s e a s' l t = l.order_two t
 
@@ -89,16 +89,16 @@ module _ (k : Book) (y : ℕ) (number : Number y) (p : List ℕ) (n : ℕ) (at :
   uncounted Open room t = refl
 
   over_call : (s : State) (e : Entry) (a : Answer) (s' : State) (t : Bool) → accepted e.call e.room ≡ t → Law k s e a s' →
-      Over k y e ⊎ (seen_at (enters k e) y ≡ working p (n + counted e.call e.room))
+      Over k y e ⊎ (seen_at (after_call k e) y ≡ working p (n + counted e.call e.room))
   over_call s e a s' true t l = elim (noted e.call e.room t) [
     | inl c ↦ inl (record { taken = t; how = inr c })
-    | inr g ↦ elim (still_working (notes k e.call).address y (notes k e.call).last p (n + counted e.call e.room) (cut e.sent) (seen_at (notes k e.call) y) g (order_at number s e a s' l t)) [
+    | inr g ↦ elim (still_working (before_replies k e.call).address y (before_replies k e.call).last p (n + counted e.call e.room) (cut e.sent) (seen_at (before_replies k e.call) y) g (order_at number s e a s' l t)) [
       | inl f ↦ inl (record { taken = t; how = inl f })
       | inr r ↦ inr (read_at number e t ∙ r)
     ]
   ]
   over_call s e a s' false t l =
-      let same : enters k e ≡ k = rw t refl in
+      let same : after_call k e ≡ k = rw t refl in
       let none : n + counted e.call e.room ≡ n = ap (λ (z : ℕ). n + z) (uncounted e.call e.room t) ∙ add-zero n in
       inr (ap (λ (b : Book). seen_at b y) same ∙ at ∙ ap (λ (z : ℕ). working p z) (sym none))
 
@@ -179,7 +179,7 @@ a_cancel_is_never_refused m h s r y number p n at st x =
     let z = k.address in
     let bs : List ℕ = (0x80 + z) ∷ (0x20 + y) ∷ [] in
     let has = has_address number k s p n i at in
-    let T : Held → ℕ → Type 0 = λ hd n. Came s (next hd 0xff) (framed n s.head s.sockets (event hd 0xff)) x.answer x.sent x.after in
+    let T : Held → ℕ → Type 0 = λ hd n. Came s (held_after hd 0xff) (framed n s.head s.sockets (event hd 0xff)) x.answer x.sent x.after in
     let c₁ : T s.held s.address = x.step.enough x.enough in
     let c₂ : T (begun bs) s.address = subst (λ (hd : Held). T hd s.address) (stands_inside bs i.stands st) c₁ in
     let c₃ : T (begun bs) z = subst (λ (n : ℕ). T (begun bs) n) i.address c₂ in
@@ -191,7 +191,7 @@ a_cancel_is_never_refused m h s r y number p n at st x =
     record {
       answer = c.answer ∙ ap (λ (q : List ℕ). counts (length q)) (reply_length number z);
       ending = c.packets ∙ reply_length number z;
-      shut = closed_at number (enters k (come x)) x.after s.sockets after c.sockets;
+      shut = closed_at number (after_call k (come x)) x.after s.sockets after c.sockets;
     }
 
 -- A cancel from its first byte on.
@@ -207,7 +207,7 @@ record Quiet (m : Meaning) (h : List Entry) {s : State} {b : ℕ} (x : Comes s b
 quiet : (m : Meaning) (h : List Entry) (s : State) (b : ℕ) (x : Comes s b) (st : Standing) (y : ℕ) → Number y → Run m h s →
     event s.held b ≡ Ok None → made_whole (book_of h).standing b ≡ None → standing_after (book_of h).standing b ≡ st → Quiet m h x st y
 quiet m h s b x st y number r tells unmade stands =
-    let T : Event → Type 0 = λ ev. Came s (next s.held b) (framed s.address s.head s.sockets ev) x.answer x.sent x.after in
+    let T : Event → Type 0 = λ ev. Came s (held_after s.held b) (framed s.address s.head s.sockets ev) x.answer x.sent x.after in
     let c : T (Ok None) = subst T tells (x.step.enough x.enough) in
     let v = in_range_in r in
     let big = le-leb 16 x.room x.enough in

@@ -3,11 +3,11 @@ use Rattle.std.proofs.Common.{◌≡◌, ℕ, suc, ◌+◌, ◌-◌, ◌/◌, �
 use Rattle.std.proofs.Math.Dec.{eqb-suc-suc}
 use Rattle.std.proofs.lemmas.List.{get_or_at, take_at, length_push}
 use Rattle.std.proofs.lemmas.Bool.{eqb-true, eqb-false, eq-eqb, ne_eqb, lt-ltb, leb-true, and_parts, and_left, and_right, or_parts, or_cases, not-true, not-false}
-use Rattle.end.specs.Book.{same, sets_address, address_after, clearing}
+use Rattle.end.specs.Book.{equal_bytes, sets_address, address_after, clearing}
 use Rattle.end.proofs.Heard.{Whole, whole}
 use Rattle.rules.specs.declared.ring.Rule.{Rule}
 use Rattle.rules.specs.declared.ring.Rule.TheVariants.{TakenOff, AddressSet, ClearedForAll, SentOn, Cleared, Cancelled, Requested}
-use Rattle.rules.specs.Ring.{stand_at, are, sender, or_else, rule_of}
+use Rattle.rules.specs.Ring.{stand_at, are, sender, else_rule, rule_of}
 use Rattle.wire.specs.Packets.{body_of}
 
 -- The two ways to say that bytes are the same.
@@ -17,7 +17,7 @@ and_swap true y z = refl
 and_swap false true z = refl
 and_swap false false z = refl
 
-stand_same : (i : ℕ) (front bs ds : List ℕ) → length front ≡ i → (eqb (length bs) (length ds) && stand_at i (front ++ bs) ds) ≡ same bs ds
+stand_same : (i : ℕ) (front bs ds : List ℕ) → length front ≡ i → (eqb (length bs) (length ds) && stand_at i (front ++ bs) ds) ≡ equal_bytes bs ds
 stand_same i front [] [] e = refl
 stand_same i front [] (d ∷ ds) e = and_left (eqb 0 (suc (length ds))) _ (ne_eqb 0 (suc (length ds)) (λ q. omega arith))
 stand_same i front (b ∷ bs) [] e = and_left (eqb (suc (length bs)) 0) _ (ne_eqb (suc (length bs)) 0 (λ q. omega arith))
@@ -29,14 +29,14 @@ stand_same i front (b ∷ bs) (d ∷ ds) e =
     let r = stand_same (suc i) (front ++ b ∷ []) bs ds n in
     rw (l, g) (
     and_swap (eqb (length bs) (length ds)) (eqb b d) (stand_at (suc i) (front ++ b ∷ bs) ds)
-    ∙ ap (λ (t : Bool). eqb b d && t) (subst (λ (z : List ℕ). (eqb (length bs) (length ds) && stand_at (suc i) z ds) ≡ same bs ds) f r)
+    ∙ ap (λ (t : Bool). eqb b d && t) (subst (λ (z : List ℕ). (eqb (length bs) (length ds) && stand_at (suc i) z ds) ≡ equal_bytes bs ds) f r)
     )
 
-are_same : (bs ds : List ℕ) → are bs ds ≡ same bs ds
+are_same : (bs ds : List ℕ) → are bs ds ≡ equal_bytes bs ds
 are_same bs ds = stand_same 0 [] bs ds refl
 
 -- one more at both ends
-same_push : (bs ds : List ℕ) (x : ℕ) → same (bs ++ x ∷ []) (ds ++ x ∷ []) ≡ same bs ds
+same_push : (bs ds : List ℕ) (x : ℕ) → equal_bytes (bs ++ x ∷ []) (ds ++ x ∷ []) ≡ equal_bytes bs ds
 same_push [] [] x = rw (eq-eqb x x refl) refl
 same_push [] (d ∷ []) x = and_right (eqb x d) false refl
 same_push [] (d ∷ e ∷ ds) x = and_right (eqb x d) false refl
@@ -70,7 +70,7 @@ module _ (a h : ℕ) (t : List ℕ) (low : a ≤ 7) where
 
   -- 01 00 01 for this end
   abbrev clears_this : Bool
-  clears_this = ltb 0 a && same p ((0x80 + a) ∷ 0x01 ∷ 0x00 ∷ 0x01 ∷ 0xff ∷ [])
+  clears_this = ltb 0 a && equal_bytes p ((0x80 + a) ∷ 0x01 ∷ 0x00 ∷ 0x01 ∷ 0xff ∷ [])
 
   for_this : (t₅ t₆ : Bool) (y : ℕ) → eqb a 0 ≡ false → Ruled a p (cond t₅ Cleared (cond t₆ (Cancelled y) Requested)) a t₅
   for_this true t₆ y has = cleared has
@@ -83,7 +83,7 @@ module _ (a h : ℕ) (t : List ℕ) (low : a ≤ 7) where
       (t₂ ≡ true → (1 ≤ w) × (w ≤ 7)) →
       (t₄ ≡ true → b ≡ false) →
       (t₄ ≡ false → (eqb a 0 ≡ false) × (b ≡ t₅)) →
-      Ruled a p (cond t₁ TakenOff (or_else (cond t₂ (Some w) None) (cond t₃ ClearedForAll (cond t₄ SentOn (cond t₅ Cleared (cond t₆ (Cancelled y) Requested))))))
+      Ruled a p (cond t₁ TakenOff (else_rule (cond t₂ (Some w) None) (cond t₃ ClearedForAll (cond t₄ SentOn (cond t₅ Cleared (cond t₆ (Cancelled y) Requested))))))
       (cond t₂ w a) (t₂ || t₃ || b)
   first_rule true t₂ t₃ t₄ t₅ t₆ b y f own wide on mine = let n = own refl in rw (n.0, n.1, n.2) taken_off
   first_rule false true t₃ t₄ t₅ t₆ b y f own wide on mine = let n = wide refl in address n.0 n.1
@@ -103,7 +103,7 @@ module _ (a h : ℕ) (t : List ℕ) (low : a ≤ 7) where
       (ne_eqb h 0x88 (λ x. z (omega arith)), ne_eqb h (0x80 + a) (λ x. z (sym s ∙ ap (λ (n : ℕ). n / 16 % 8) x ∙ no_sender)))
 
   own_none : (not (eqb a 0) && eqb (sender p) a) ≡ true →
-      (sets_address p ≡ false) × (same p (0x88 ∷ 0x01 ∷ 0x00 ∷ 0x01 ∷ 0xff ∷ []) ≡ false) × (clears_this ≡ false)
+      (sets_address p ≡ false) × (equal_bytes p (0x88 ∷ 0x01 ∷ 0x00 ∷ 0x01 ∷ 0xff ∷ []) ≡ false) × (clears_this ≡ false)
   own_none e =
       let n = own_begins e in
       (rw n.0 refl, rw n.0 refl, and_right (ltb 0 a) _ (rw n.1 refl))
@@ -135,7 +135,7 @@ module _ (a h : ℕ) (t : List ℕ) (low : a ≤ 7) where
       let four : List ℕ = 0x88 ∷ 0x30 ∷ w ∷ 0xff ∷ [] in
       let five : List ℕ = 0x88 ∷ 0x01 ∷ 0x00 ∷ 0x01 ∷ 0xff ∷ [] in
       rw (are_same p four, are_same p five) (first_rule
-      (not (eqb a 0) && eqb (sender p) a) (sets_address p) (same p five) (eqb a 0 || not (eqb h (0x80 + a)))
+      (not (eqb a 0) && eqb (sender p) a) (sets_address p) (equal_bytes p five) (eqb a 0 || not (eqb h (0x80 + a)))
       (are (body_of p) (0x01 ∷ 0x00 ∷ 0x01 ∷ [])) _ clears_this _
       refl own_none wide_enough for_another for_me)
 

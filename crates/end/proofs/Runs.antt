@@ -3,12 +3,12 @@ use Rattle.std.proofs.Common.{◌≡◌, ℕ, ◌-◌, ◌≤◌, Bool, true, fa
 use Rattle.std.proofs.lemmas.Bool.{eqb-true, leb-true, leb-false}
 use Rattle.end.specs.declared.call.Call.{Call}
 use Rattle.end.specs.declared.call.Call.TheVariants.{Byte, Tick, Open}
-use Rattle.end.specs.declared.fault.Cause.TheVariants.{ShortBuffer}
+use Rattle.end.specs.declared.faults.Cause.TheVariants.{ShortBuffer}
 use Rattle.end.specs.declared.socket.Sockets.{Sockets}
-use Rattle.end.specs.Book.{Book, Entry, Standing, Seen, closed, between, cut, reads, receives, sees, ages, older, notes, accepted, enters, book_of, fresh, clearing}
-use Rattle.end.specs.Deeds.{Same}
+use Rattle.end.specs.Book.{Book, Entry, Standing, Seen, closed, between, cut, seen_after_replies, with_packet, after_replies, after_tick, one_tick_older, before_replies, accepted, after_call, book_of, fresh, clearing}
+use Rattle.end.specs.Deeds.{Unchanged}
 use Rattle.end.specs.Faults.{Answer, opens}
-use Rattle.end.specs.Law.{Run, Lawful, Law, Agreement, WholePackets, InOrder, MayChange, open_by, entry, Keeps, Played, Served, room_for, SocketsAgreeInEveryRun}
+use Rattle.end.specs.Law.{Run, Lawful, Law, Agreement, WholePackets, InOrder, MayChange, open_by, entry, Keeps, Played, CallMade, room_for, SocketsAgreeInEveryRun}
 use Rattle.end.specs.Law as law
 use Rattle.end.specs.Outcomes.{Outcome, own_header, sends, fails, framed, met, ended, requested as asked_for}
 use Rattle.end.specs.States.{State, InRange}
@@ -17,13 +17,13 @@ use Rattle.end.proofs.Effects as effects
 use Rattle.end.proofs.Heard.{Stands, nowhere, Heard, nothing, faulty, packet, heard, Whole}
 use Rattle.end.proofs.Ruled.{Ruled, taken_off, address, cleared_for_all, sent_on, cleared, cancelled, requested, ruled}
 use Rattle.end.proofs.Sent.{whole_packets}
-use Rattle.end.proofs.Ticking.{after_tick, changed}
+use Rattle.end.proofs.Ticking.{tied_after_tick, changed}
 use Rattle.end.proofs.Tied.{Tied, rests, tied_open, tied_holds, tied_in_time, After}
 use Rattle.head.specs.declared.setting.Setting.{Setting}
 use Rattle.head.specs.Meaning.{Meaning}
 use Rattle.head.specs.Settings.{Small}
 use Rattle.head.proofs.Bounds.{small as small_of}
-use Rattle.rows.specs.declared.fault.PacketFault.{PacketFault}
+use Rattle.rows.specs.declared.faults.PacketFault.{PacketFault}
 use Rattle.rows.specs.declared.request.Request.{Request}
 use Rattle.rows.specs.declared.request.Request.TheVariants.{Command, Ask}
 use Rattle.rows.specs.Requests.{read_body}
@@ -42,12 +42,12 @@ pub record Inv (k : Book) (s : State) : Type 0 where
   pub two : Tied k.two s.sockets.two s.head.slots.two
 
 -- what an end with no address sends says nothing of a socket
-reads_asleep : (y : ℕ) (p : List ℕ) (qs : List (List ℕ)) (x : Seen) → reads 0 y p qs x ≡ x
+reads_asleep : (y : ℕ) (p : List ℕ) (qs : List (List ℕ)) (x : Seen) → seen_after_replies 0 y p qs x ≡ x
 reads_asleep y p [] x = refl
 reads_asleep y p (q ∷ qs) x = reads_asleep y p qs x
 
-asleep_after : (a y : ℕ) (p : List ℕ) (qs : List (List ℕ)) (x : Seen) → a ≡ 0 → x ≡ closed → reads a y p qs x ≡ closed
-asleep_after a y p qs x e h = ap (λ (n : ℕ). reads n y p qs x) e ∙ reads_asleep y p qs x ∙ h
+asleep_after : (a y : ℕ) (p : List ℕ) (qs : List (List ℕ)) (x : Seen) → a ≡ 0 → x ≡ closed → seen_after_replies a y p qs x ≡ closed
+asleep_after a y p qs x e h = ap (λ (n : ℕ). seen_after_replies n y p qs x) e ∙ reads_asleep y p qs x ∙ h
 
 -- an open socket is of an end with an address
 pub awake : (a : ℕ) (l₁ l₂ : Seen) (t : Bool) → eqb a 0 ≡ t → (a ≡ 0 → (l₁ ≡ closed) × (l₂ ≡ closed)) → (open_by l₁ ≡ true) ⊎ (open_by l₂ ≡ true) → eqb a 0 ≡ false
@@ -125,7 +125,7 @@ module _ (s : State) (p sent : List ℕ) (s' : State) (small : (t : Setting) →
 
 -- the book k, which has taken note of the call, and the state after it
 pub record Noted (k : Book) (f : Setting → ℤ) (sent : List ℕ) (s' : State) : Type 0 where
-  pub inv : Inv (sees k sent) s'
+  pub inv : Inv (after_replies k sent) s'
   pub order_one : InOrder k.address 1 k.last (cut sent) k.one
   pub order_two : InOrder k.address 2 k.last (cut sent) k.two
   pub settings : (t : Setting) → s'.head.setting t ≡ f t
@@ -165,39 +165,39 @@ module _ (k : Book) (s : State) (a : Answer) (sent : List ℕ) (s' : State) (v :
 
   -- nothing whole: nothing sent, nothing done
   unheard : {st : Standing} {h : Held} → (d : effects.Done s.head.setting s.head.pantilt k.address k.last sent s' i.low (sends k.address []) s.sockets.one s.sockets.two s.head.slots.one s.head.slots.two) →
-      s'.address ≡ s.address → s'.held ≡ h → Stands st h → Noted (receives k st None) s.head.setting sent s'
+      s'.address ≡ s.address → s'.held ≡ h → Stands st h → Noted (with_packet k st None) s.head.setting sent s'
   unheard {st} d e g t =
-      noted (receives k st None) s.head.setting sent s' (e ∙ i.address) i.low (rw g t) i.asleep
+      noted (with_packet k st None) s.head.setting sent s' (e ∙ i.address) i.low (rw g t) i.asleep
       (effects.silent s.head.setting s.head.pantilt k.address k.last sent s' i.low i.one i.two d)
 
   whole_heard : {p : List ℕ} → Whole p → Came s none (framed s.address s.head s.sockets (Ok (Some p))) a sent s' →
-      Noted (receives (as_at s.address) between (Some p)) s.head.setting sent s'
+      Noted (with_packet (as_at s.address) between (Some p)) s.head.setting sent s'
   whole_heard {p} w c =
       let low : s.address ≤ 7 = subst (λ (n : ℕ). n ≤ 7) (sym i.address) i.low in
       let r = ruled s.address low w in
       let m = met_packet s p sent s' (λ t. small_of t (s.head.setting t) (v.each t)) low k.one k.two i.one i.two w r (record { packets = c.packets; head = c.head; sockets = c.sockets }) in
-      noted (receives (as_at s.address) between (Some p)) s.head.setting sent s' (c.address ∙ m.then) m.low (rw c.held nowhere)
+      noted (with_packet (as_at s.address) between (Some p)) s.head.setting sent s' (c.address ∙ m.then) m.low (rw c.held nowhere)
       (λ z. let q = i.asleep (sym i.address ∙ ruled_asleep r z) in (shut_closed (clearing s.address p) k.one q.0, shut_closed (clearing s.address p) k.two q.1))
       m.after
 
   byte_heard : {st : Standing} {h : Held} {w : Option (List ℕ)} {ev : Event} → Heard st h w ev → Came s h (framed s.address s.head s.sockets ev) a sent s' →
-      Noted (receives k st w) s.head.setting sent s'
+      Noted (with_packet k st w) s.head.setting sent s'
   byte_heard (nothing t) c = unheard (record { packets = c.packets; head = c.head; sockets = c.sockets }) c.address c.held t
   byte_heard (faulty t) c = unheard (record { packets = c.packets; head = c.head; sockets = c.sockets }) c.address c.held t
-  byte_heard (packet {p = p} w) c = subst (λ (n : ℕ). Noted (receives (as_at n) between (Some p)) s.head.setting sent s') i.address (whole_heard w c)
+  byte_heard (packet {p = p} w) c = subst (λ (n : ℕ). Noted (with_packet (as_at n) between (Some p)) s.head.setting sent s') i.address (whole_heard w c)
 
 -- One call.
 
 pub record Goes (k : Book) (s : State) (e : Entry) (a : Answer) (s' : State) : Type 0 where
-  pub inv : Inv (enters k e) s'
-  pub order_one : accepted e.call e.room ≡ true → InOrder (notes k e.call).address 1 (notes k e.call).last (cut e.sent) (notes k e.call).one
-  pub order_two : accepted e.call e.room ≡ true → InOrder (notes k e.call).address 2 (notes k e.call).last (cut e.sent) (notes k e.call).two
+  pub inv : Inv (after_call k e) s'
+  pub order_one : accepted e.call e.room ≡ true → InOrder (before_replies k e.call).address 1 (before_replies k e.call).last (cut e.sent) (before_replies k e.call).one
+  pub order_two : accepted e.call e.room ≡ true → InOrder (before_replies k e.call).address 2 (before_replies k e.call).last (cut e.sent) (before_replies k e.call).two
   pub silent : accepted e.call e.room ≡ false → e.sent ≡ []
   pub settings : (t : Setting) → (s'.head.setting t ≡ s.head.setting t) ⊎ MayChange k s.head e t
   pub answer : e.call ≡ Open → a ≡ opens (open_by k.one) (open_by k.two)
 
 -- end and head as before, nothing sent
-still : (k : Book) (s s' : State) → Inv k s → Same s.head s'.head → s'.sockets ≡ s.sockets → s'.address ≡ s.address → s'.held ≡ s.held → Inv k s'
+still : (k : Book) (s s' : State) → Inv k s → Unchanged s.head s'.head → s'.sockets ≡ s.sockets → s'.address ≡ s.address → s'.held ≡ s.held → Inv k s'
 still k s s' i h c e g = record {
   address = e ∙ i.address;
   low = i.low;
@@ -239,9 +239,9 @@ tick_goes k s n a sent s' true w i d =
     let c = x.1 in
     let h = c.head in
     let says = subst (λ (z : ℕ). sent ≡ ended (own_header z) 1 e.one ++ ended (own_header z) 2 e.two) i.address c.packets in
-    let r = after_tick k.address k.last sent s' e i.low (awake k.address k.one k.two (eqb k.address 0) refl i.asleep) i.one i.two h.one h.two c.sockets says in
-    let q = noted (ages k) s'.head.setting sent s' (c.address ∙ i.address) i.low (rw c.held i.stands)
-    (λ z. let y = i.asleep z in (ap older y.0, ap older y.1)) r in
+    let r = tied_after_tick k.address k.last sent s' e i.low (awake k.address k.one k.two (eqb k.address 0) refl i.asleep) i.one i.two h.one h.two c.sockets says in
+    let q = noted (after_tick k) s'.head.setting sent s' (c.address ∙ i.address) i.low (rw c.held i.stands)
+    (λ z. let y = i.asleep z in (ap one_tick_older y.0, ap one_tick_older y.1)) r in
     record {
       inv = rw w q.inv;
       order_one = λ t. q.order_one;
@@ -295,7 +295,7 @@ agreement k s i =
 
 lawful_call : (k : Book) (s : State) (e : Entry) (a : Answer) (s' : State) → WholePackets 2 e.sent → Goes k s e a s' → Law k s e a s'
 lawful_call k s e a s' w g = record {
-  agreement = agreement (enters k e) s' g.inv;
+  agreement = agreement (after_call k e) s' g.inv;
   whole = w;
   order_one = g.order_one;
   order_two = g.order_two;
@@ -332,7 +332,7 @@ pub played_none : {m : Meaning} {s : State} (n : ℕ) → InRange s → Made m s
 played_none n v d = record { run = []; asked = refl; logged = refl; shared = tt; lawful = every_run (law.Run.made d v) }
 
 pub played_more : (m : Meaning) (cs : List Call) (n : ℕ) (bs : List ℕ) (s : State) (c : Call) (sent : List ℕ) (s' : State) →
-    Served c (n - length bs) s sent s' → Played m cs n bs s → Played m (cs ++ c ∷ []) n (bs ++ sent) s'
+    CallMade c (n - length bs) s sent s' → Played m cs n bs s → Played m (cs ++ c ∷ []) n (bs ++ sent) s'
 played_more m cs n bs s c sent s' d v =
     let room = room_for c (n - length bs) in
     record {

@@ -25,7 +25,7 @@ use Rattle.head.specs.declared.setting.Setting.{Setting}
 use Rattle.head.specs.Meaning.{Meaning, in_use}
 use Rattle.head.specs.Settings.{Small}
 use Rattle.head.proofs.Bounds.{small as small_of}
-use Rattle.rows.specs.declared.fault.PacketFault.{PacketFault}
+use Rattle.rows.specs.declared.faults.PacketFault.{PacketFault}
 use Rattle.rows.specs.declared.request.Request.{Request}
 use Rattle.rows.specs.declared.request.Request.TheVariants.{Command, Ask}
 use Rattle.rows.specs.Answers as inquiry
@@ -115,7 +115,7 @@ module _ (a : ℕ) (low : a ≤ 7) where
   request m k (Ok (Command row o)) small = command m k o
   request m k (Ok (Ask q)) small =
       let f = told_fits m.setting m.pantilt q.form q.setting in
-      answered (inquiry.told q.form m.setting q.setting m.pantilt) (told_plain m.setting m.pantilt small q.form q.setting) f.some f.few
+      answered (inquiry.answer_body q.form m.setting q.setting m.pantilt) (told_plain m.setting m.pantilt small q.form q.setting) f.some f.few
   request m k (Err f) small = reply (Error 0 Syntax) 1
 
   -- a whole packet

@@ -2,14 +2,14 @@
 use Rattle.std.proofs.Common.{◌≡◌, ℕ, ◌+◌, ◌/◌, ◌%◌, ◌<◌, ◌≤◌, Bool, true, false, cond, not, ◌&&◌, eqb, List, [], ◌∷◌, ◌++◌, length, sym, refl, ap, ◌∙◌, subst, append_assoc, arith}
 use Rattle.std.proofs.lemmas.Bool.{eqb-false, eq-eqb, ne_eqb, le-leb}
 use Rattle.std.proofs.lemmas.List.{length_push}
-use Rattle.end.specs.Book.{Seen, Word, acknowledges, ends, other, same, cut, cut_from, word, told, reads}
+use Rattle.end.specs.Book.{Seen, Said, acknowledges, ends, other, equal_bytes, cut, cut_from, said_of, seen_after_said, seen_after_replies}
 use Rattle.end.specs.Law.{Due, InOrder}
 use Rattle.end.specs.Outcomes.{own, own_header}
 use Rattle.rules.specs.declared.reply.Problem.{Problem}
 use Rattle.rules.specs.declared.reply.Problem.TheVariants.{Syntax, BufferFull, Cancelled, NoSocket, NotExecutable}
 use Rattle.rules.specs.declared.reply.Reply.{Reply}
 use Rattle.rules.specs.declared.reply.Reply.TheVariants.{Acknowledgement, Completion, Error}
-use Rattle.rules.specs.Replies.{code_of}
+use Rattle.rules.specs.Replies.{problem_code}
 use Rattle.wire.specs.Packets.{is_header, closes, is_packet}
 
 -- Bytes without FF, and how they are cut.
@@ -52,18 +52,18 @@ own_header_is a h = rw (le-leb 0x80 (own_header a) (omega arith), le-leb (own_he
 
 -- A packet says of socket y only what an own one says behind its header.
 
-abbrev pub behind : ℕ → List ℕ → Word
+abbrev pub behind : ℕ → List ℕ → Said
 behind y t =
-    cond (same t ((0x40 + y) ∷ 0xff ∷ [])) acknowledges
-    (cond (same t ((0x50 + y) ∷ 0xff ∷ [])) ends
-    (cond (same t ((0x60 + y) ∷ 0x04 ∷ 0xff ∷ [])) ends
-    (cond (same t ((0x60 + y) ∷ 0x41 ∷ 0xff ∷ [])) ends
+    cond (equal_bytes t ((0x40 + y) ∷ 0xff ∷ [])) acknowledges
+    (cond (equal_bytes t ((0x50 + y) ∷ 0xff ∷ [])) ends
+    (cond (equal_bytes t ((0x60 + y) ∷ 0x04 ∷ 0xff ∷ [])) ends
+    (cond (equal_bytes t ((0x60 + y) ∷ 0x41 ∷ 0xff ∷ [])) ends
     other)))
 
-word_own : (a y : ℕ) (t : List ℕ) → eqb a 0 ≡ false → word a y (own_header a ∷ t) ≡ behind y t
+word_own : (a y : ℕ) (t : List ℕ) → eqb a 0 ≡ false → said_of a y (own_header a ∷ t) ≡ behind y t
 word_own a y t has = rw (has, eq-eqb (own_header a) (own_header a) refl)
 
-word_none : (a y h : ℕ) (t : List ℕ) → eqb h (own_header a) ≡ false → word a y (h ∷ t) ≡ other
+word_none : (a y h : ℕ) (t : List ℕ) → eqb h (own_header a) ≡ false → said_of a y (h ∷ t) ≡ other
 word_none a y h t e = rw e (none (eqb a 0)) where
   none : (b : Bool) → cond b other other ≡ other
   none true = refl
@@ -74,10 +74,10 @@ word_none a y h t e = rw e (none (eqb a 0)) where
 abbrev pub tail_of : Reply → List ℕ
 tail_of (Acknowledgement z) = (0x40 + z % 16) ∷ []
 tail_of (Completion z) = (0x50 + z % 16) ∷ []
-tail_of (Error z problem) = (0x60 + z % 16) ∷ code_of problem ∷ []
+tail_of (Error z problem) = (0x60 + z % 16) ∷ problem_code problem ∷ []
 
 -- what a reply says of socket y
-abbrev pub said : ℕ → Reply → Word
+abbrev pub said : ℕ → Reply → Said
 said y r = behind y (tail_of r ++ 0xff ∷ [])
 
 pub own_is : (a : ℕ) (r : Reply) (rest : List ℕ) → own a r ++ rest ≡ own_header a ∷ (tail_of r ++ 0xff ∷ rest)
@@ -85,7 +85,7 @@ own_is a (Acknowledgement z) rest = refl
 own_is a (Completion z) rest = refl
 own_is a (Error z problem) rest = refl
 
-code_small : (problem : Problem) → code_of problem < 0xff
+code_small : (problem : Problem) → problem_code problem < 0xff
 code_small Syntax = omega arith
 code_small BufferFull = omega arith
 code_small Cancelled = omega arith
@@ -105,22 +105,22 @@ owns a (r ∷ rs) = own a r ++ owns a rs
 -- socket y after replies, by what they say of it, and that each was due
 abbrev pub spoken : List ℕ → ℕ → List Reply → Seen → Seen
 spoken p y [] x = x
-spoken p y (r ∷ rs) x = spoken p y rs (told p (said y r) x)
+spoken p y (r ∷ rs) x = spoken p y rs (seen_after_said p (said y r) x)
 
 abbrev pub AllDue : List ℕ → ℕ → List Reply → Seen → Type 0
 AllDue p y [] x = Unit {0}
-AllDue p y (r ∷ rs) x = Due (said y r) x × AllDue p y rs (told p (said y r) x)
+AllDue p y (r ∷ rs) x = Due (said y r) x × AllDue p y rs (seen_after_said p (said y r) x)
 
 -- what the book reads in sent bytes for socket y
 pub record Read (a y : ℕ) (p sent : List ℕ) (x x' : Seen) : Type 0 where
-  pub line : reads a y p (cut sent) x ≡ x'
+  pub line : seen_after_replies a y p (cut sent) x ≡ x'
   pub order : InOrder a y p (cut sent) x
 
 -- one packet more in front, which says w
-read_more : (a y : ℕ) (p sent rest q : List ℕ) (w : Word) (x x' : Seen) → cut sent ≡ q ∷ cut rest → word a y q ≡ w → Due w x → Read a y p rest (told p w x) x' → Read a y p sent x x'
+read_more : (a y : ℕ) (p sent rest q : List ℕ) (w : Said) (x x' : Seen) → cut sent ≡ q ∷ cut rest → said_of a y q ≡ w → Due w x → Read a y p rest (seen_after_said p w x) x' → Read a y p sent x x'
 read_more a y p sent rest q w x x' e h d r = record {
-  line = rw e (ap (λ (v : Word). reads a y p (cut rest) (told p v x)) h ∙ r.line);
-  order = rw e (subst (λ (v : Word). Due v x × InOrder a y p (cut rest) (told p v x)) (sym h) (d, r.order));
+  line = rw e (ap (λ (v : Said). seen_after_replies a y p (cut rest) (seen_after_said p v x)) h ∙ r.line);
+  order = rw e (subst (λ (v : Said). Due v x × InOrder a y p (cut rest) (seen_after_said p v x)) (sym h) (d, r.order));
 }
 
 module _ (a : ℕ) (low : a ≤ 7) where
@@ -134,21 +134,21 @@ module _ (a : ℕ) (low : a ≤ 7) where
     read_owns y p [] x d = record { line = refl; order = tt }
     read_owns y p (r ∷ rs) x d =
         read_more a y p (own a r ++ owns a rs) (owns a rs) _ (said y r) x _ (cut_own r (owns a rs)) (word_own a y (tail_of r ++ 0xff ∷ []) has) d.0
-        (read_owns y p rs (told p (said y r) x) d.1)
+        (read_owns y p rs (seen_after_said p (said y r) x) d.1)
 
 -- A packet that says nothing of a socket.
 
 pub read_none : (a y : ℕ) (p : List ℕ) (x : Seen) → Read a y p [] x x
 read_none a y p x = record { line = refl; order = tt }
 
-read_other : (a y : ℕ) (p sent : List ℕ) (x : Seen) → cut sent ≡ sent ∷ [] → word a y sent ≡ other → Read a y p sent x x
+read_other : (a y : ℕ) (p sent : List ℕ) (x : Seen) → cut sent ≡ sent ∷ [] → said_of a y sent ≡ other → Read a y p sent x x
 read_other a y p sent x e w = read_more a y p sent [] sent other x x e w tt (read_none a y p x)
 
 -- one that another sent
 sent_by : (a h : ℕ) → a ≤ 7 → h ≡ own_header a → h / 16 % 8 ≡ a
 sent_by a h low e = omega arith
 
-word_foreign : (a y h : ℕ) (t : List ℕ) (z : Bool) → a ≤ 7 → eqb a 0 ≡ z → (not z && eqb (h / 16 % 8) a) ≡ false → word a y (h ∷ t) ≡ other
+word_foreign : (a y h : ℕ) (t : List ℕ) (z : Bool) → a ≤ 7 → eqb a 0 ≡ z → (not z && eqb (h / 16 % 8) a) ≡ false → said_of a y (h ∷ t) ≡ other
 word_foreign a y h t true low e f = rw e refl
 word_foreign a y h t false low e f = word_none a y h t (ne_eqb h (own_header a) (λ q. eqb-false (h / 16 % 8) a f (sent_by a h low q)))
 

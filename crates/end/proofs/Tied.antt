@@ -1,8 +1,8 @@
 -- A socket by the book, by the end and by the head: what is kept from call to call.
 use Rattle.std.proofs.Common.{◌≡◌, ℕ, ◌+◌, ◌≤◌, false, eqb, List, ℤ, Some, None, Option, sym, refl, arith}
 use Rattle.end.specs.declared.socket.Sockets.{Sockets}
-use Rattle.end.specs.Book.{Seen, closed, working, cut, reads}
-use Rattle.end.specs.Law.{read_as, open_by, Holds, InOrder, InTime}
+use Rattle.end.specs.Book.{Seen, closed, working, cut, seen_after_replies}
+use Rattle.end.specs.Law.{read_as, open_by, SlotAgrees, InOrder, InTime}
 use Rattle.end.specs.Sockets.{is_open}
 use Rattle.end.specs.States.{State}
 use Rattle.end.proofs.Spoken.{Read, owns, spoken, AllDue, read_owns}
@@ -21,7 +21,7 @@ pub tied_open : {l : Seen} {x : Option Order} {c : Slot} → Tied l x c → is_o
 tied_open rests = refl
 tied_open (works r low high) = refl
 
-pub tied_holds : {l : Seen} {x : Option Order} {c : Slot} → Tied l x c → Holds l c
+pub tied_holds : {l : Seen} {x : Option Order} {c : Slot} → Tied l x c → SlotAgrees l c
 tied_holds rests = record { whether = refl; which = refl }
 tied_holds (works r low high) = record { whether = refl; which = sym r }
 
@@ -31,8 +31,8 @@ tied_in_time (works r low high) = omega arith
 
 -- Both sockets after the sent packets of an end with address a were read; p is the last whole packet.
 pub record After (a : ℕ) (p : List ℕ) (l₁ l₂ : Seen) (sent : List ℕ) (f : Setting → ℤ) (s' : State) : Type 0 where
-  pub one : Tied (reads a 1 p (cut sent) l₁) s'.sockets.one s'.head.slots.one
-  pub two : Tied (reads a 2 p (cut sent) l₂) s'.sockets.two s'.head.slots.two
+  pub one : Tied (seen_after_replies a 1 p (cut sent) l₁) s'.sockets.one s'.head.slots.one
+  pub two : Tied (seen_after_replies a 2 p (cut sent) l₂) s'.sockets.two s'.head.slots.two
   pub order_one : InOrder a 1 p (cut sent) l₁
   pub order_two : InOrder a 2 p (cut sent) l₂
   pub settings : (t : Setting) → s'.head.setting t ≡ f t

@@ -25,7 +25,7 @@ abbrev pub other : ℕ → ℕ
 other y = 3 - y
 
 -- settings, pan and tilt, and slots as before
-pub record Same (m m' : Meaning) : Type 0 where
+pub record Unchanged (m m' : Meaning) : Type 0 where
   pub kept : Kept m m'
   pub slots : m'.slots ≡ m.slots
 
@@ -50,7 +50,7 @@ pub record Displaced (m : Meaning) (y : ℕ) (o : Order) (m' : Meaning) : Type 0
 
 -- the head over a deed
 abbrev pub DidHead : Deed → Meaning → Meaning → Type 0
-DidHead nothing m m' = Same m m'
+DidHead nothing m m' = Unchanged m m'
 DidHead clears m m' = Cleared m m'
 DidHead (cancels y) m m' = Dropped m y m'
 DidHead (starts y o) m m' = Given m y o m'

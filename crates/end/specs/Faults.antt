@@ -1,18 +1,19 @@
 -- What a call answers: a count of bytes sent; a fault by number, layer and place, with the count sent; or which sockets are open.
 use Rattle.std.specs.Prelude.{ℕ, Bool, Ok, Err, Result}
-use Rattle.end.specs.declared.fault.Cause.{Cause}
-use Rattle.end.specs.declared.fault.Cause.TheVariants.{ShortBuffer, Framing, Packet}
-use Rattle.end.specs.declared.fault.Fault.{Fault}
+use Rattle.end.specs.declared.faults.Cause.{Cause}
+use Rattle.end.specs.declared.faults.Cause.TheVariants.{ShortBuffer, Framing, Packet}
+use Rattle.end.specs.declared.faults.Fault.{Fault}
 use Rattle.rows.specs.Requests as packets
-use Rattle.wire.specs.declared.fault.FaultCode.{FaultCode}
+use Rattle.fault.specs.declared.code.FaultCode.{FaultCode}
 use Rattle.wire.specs.declared.framer.FramingFault.{FramingFault}
-use Rattle.wire.specs.declared.fault.Layer.TheVariants as layer
+use Rattle.fault.specs.declared.code.Layer.TheVariants as layer
+use Rattle.fault.specs.Faults.{fault_code}
 use Rattle.wire.specs.Framing as framing
 
-abbrev pub code_of : Cause → FaultCode
-code_of ShortBuffer = framing.code 1 layer.Call 0
-code_of (Framing f) = framing.code_of f
-code_of (Packet f) = packets.code_of f
+abbrev pub cause_code : Cause → FaultCode
+cause_code ShortBuffer = fault_code 1 layer.Call 0
+cause_code (Framing f) = framing.framing_code f
+cause_code (Packet f) = packets.packet_code f
 
 -- a fault of framing comes with no reply
 abbrev pub without_reply : FramingFault → Fault
@@ -30,9 +31,9 @@ pub data Answer : Type 0 where
 
 abbrev pub answered : Result ℕ Fault → Answer
 answered (Ok n) = counts n
-answered (Err f) = faults (code_of f.cause) f.sent
+answered (Err f) = faults (cause_code f.cause) f.sent
 
 -- the count that an answer tells
-abbrev pub count : Result ℕ Fault → ℕ
-count (Ok n) = n
-count (Err f) = f.sent
+abbrev pub count_told : Result ℕ Fault → ℕ
+count_told (Ok n) = n
+count_told (Err f) = f.sent

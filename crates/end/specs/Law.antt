@@ -3,7 +3,7 @@ use Rattle.std.specs.Prelude.{◌≡◌, ℕ, ◌-◌, ◌<◌, ◌≤◌, Bool,
 use Rattle.std.specs.List.{concat, list_all}
 use Rattle.end.specs.declared.call.Call.{Call}
 use Rattle.end.specs.declared.call.Call.TheVariants.{Byte, Tick, Open}
-use Rattle.end.specs.Book.{Book, Entry, Seen, closed, working, Word, acknowledges, ends, other, word, told, cut, fresh, notes, accepted, enters, book_of}
+use Rattle.end.specs.Book.{Book, Entry, Seen, closed, working, Said, acknowledges, ends, other, said_of, seen_after_said, cut, fresh, before_replies, accepted, after_call, book_of}
 use Rattle.end.specs.Faults.{Answer, opens}
 use Rattle.end.specs.Sockets.{is_open}
 use Rattle.end.specs.States.{State, InRange}
@@ -14,7 +14,7 @@ use Rattle.head.specs.declared.setting.Setting.{Setting}
 use Rattle.head.specs.Meaning.{Meaning, Slot, order_in}
 use Rattle.head.specs.Orders.{parts, names}
 use Rattle.head.specs.Settings.{position, drive}
-use Rattle.rows.specs.declared.fault.PacketFault.{PacketFault}
+use Rattle.rows.specs.declared.faults.PacketFault.{PacketFault}
 use Rattle.rows.specs.declared.request.Request.{Request}
 use Rattle.rows.specs.declared.request.Request.TheVariants.{Command, Ask}
 use Rattle.rows.specs.Requests.{read_body}
@@ -28,14 +28,14 @@ pub data Run (m : Meaning) : List Entry → State → Type 0 where
 
 -- Agreement.
 
-abbrev pub ordered : Result Request PacketFault → Option Order
-ordered (Ok (Command row o)) = Some o
-ordered (Ok (Ask q)) = None
-ordered (Err f) = None
+abbrev pub order_asked : Result Request PacketFault → Option Order
+order_asked (Ok (Command row o)) = Some o
+order_asked (Ok (Ask q)) = None
+order_asked (Err f) = None
 
 -- the order that a packet is read as, if any
 abbrev pub read_as : List ℕ → Option Order
-read_as p = ordered (read_body (body_of p))
+read_as p = order_asked (read_body (body_of p))
 
 abbrev pub open_by : Seen → Bool
 open_by closed = false
@@ -47,15 +47,15 @@ command_of closed = None
 command_of (working p n) = read_as p
 
 -- a socket by the book and a slot by the head: the slot has an order exactly if the socket is open, and it is the command's
-pub record Holds (x : Seen) (c : Slot) : Type 0 where
+pub record SlotAgrees (x : Seen) (c : Slot) : Type 0 where
   pub whether : is_some (order_in c) ≡ open_by x
   pub which : order_in c ≡ command_of x
 
 -- what the end answers if it is asked now which sockets are open, is what the book has; and so have the slots of the head
 pub record Agreement (k : Book) (s : State) : Type 0 where
   pub asked : opens (is_open s.sockets.one) (is_open s.sockets.two) ≡ opens (open_by k.one) (open_by k.two)
-  pub slot_one : Holds k.one s.head.slots.one
-  pub slot_two : Holds k.two s.head.slots.two
+  pub slot_one : SlotAgrees k.one s.head.slots.one
+  pub slot_two : SlotAgrees k.two s.head.slots.two
 
 -- Whole packets.
 
@@ -69,7 +69,7 @@ pub record WholePackets (n : ℕ) (sent : List ℕ) : Type 0 where
 -- Order of packets.
 
 -- no acknowledgement for a socket that is open just before it, no ending for one that is closed just before it
-abbrev pub Due : Word → Seen → Type 0
+abbrev pub Due : Said → Seen → Type 0
 Due acknowledges x = open_by x ≡ false
 Due ends x = open_by x ≡ true
 Due other x = Unit {0}
@@ -77,7 +77,7 @@ Due other x = Unit {0}
 -- packets of an end with address a, read in turn for socket y; p is the last whole packet
 abbrev pub InOrder : ℕ → ℕ → List ℕ → List (List ℕ) → Seen → Type 0
 InOrder a y p [] x = Unit {0}
-InOrder a y p (q ∷ qs) x = Due (word a y q) x × InOrder a y p qs (told p (word a y q) x)
+InOrder a y p (q ∷ qs) x = Due (said_of a y q) x × InOrder a y p qs (seen_after_said p (said_of a y q) x)
 
 -- fewer than 1,000 accepted ticks since the acknowledgement
 abbrev pub InTime : Seen → Type 0
@@ -95,7 +95,7 @@ abbrev pub Named : Seen → Setting → Type 0
 Named x t = names_by (command_of x) t ≡ true
 
 -- the setting is a position whose drive is not 0
-pub record Driven (m : Meaning) (t : Setting) : Type 0 where
+pub record IsDriven (m : Meaning) (t : Setting) : Type 0 where
   pub axis : Axis
   pub is : position axis ≡ t
   pub moves : m.setting (drive axis) ≡ pos 0 → ⊥
@@ -104,19 +104,19 @@ pub record Driven (m : Meaning) (t : Setting) : Type 0 where
 pub record MayChange (k : Book) (m : Meaning) (e : Entry) (t : Setting) : Type 0 where
   pub tick : e.call ≡ Tick
   pub room : 16 ≤ e.room
-  pub why : Named k.one t ⊎ Named k.two t ⊎ Driven m t
+  pub why : Named k.one t ⊎ Named k.two t ⊎ IsDriven m t
 
 -- The law of one call e in state s, answered a, that leads to s'; k is the book before it.
 pub record Law (k : Book) (s : State) (e : Entry) (a : Answer) (s' : State) : Type 0 where
-  pub agreement : Agreement (enters k e) s'
+  pub agreement : Agreement (after_call k e) s'
   pub whole : WholePackets 2 e.sent
   -- the packets that an accepted call sent, as the book reads them
-  pub order_one : accepted e.call e.room ≡ true → InOrder (notes k e.call).address 1 (notes k e.call).last (cut e.sent) (notes k e.call).one
-  pub order_two : accepted e.call e.room ≡ true → InOrder (notes k e.call).address 2 (notes k e.call).last (cut e.sent) (notes k e.call).two
+  pub order_one : accepted e.call e.room ≡ true → InOrder (before_replies k e.call).address 1 (before_replies k e.call).last (cut e.sent) (before_replies k e.call).one
+  pub order_two : accepted e.call e.room ≡ true → InOrder (before_replies k e.call).address 2 (before_replies k e.call).last (cut e.sent) (before_replies k e.call).two
   -- any other sent nothing
   pub silent : accepted e.call e.room ≡ false → e.sent ≡ []
-  pub time_one : InTime (enters k e).one
-  pub time_two : InTime (enters k e).two
+  pub time_one : InTime (after_call k e).one
+  pub time_two : InTime (after_call k e).two
   pub settings : (t : Setting) → (s'.head.setting t ≡ s.head.setting t) ⊎ MayChange k s.head e t
   -- a question which sockets are open was answered as the book has it
   pub answer : e.call ≡ Open → a ≡ opens (open_by k.one) (open_by k.two)
@@ -136,12 +136,12 @@ entry c n sent = record { call = c; room = n; sent = sent }
 
 -- what a call owes to every run that leads to it: the run with this call is a run, the law holds after each of its calls, and
 -- after this one with what it answered
-pub record Kept (m : Meaning) (h : List Entry) (s : State) (e : Entry) (a : Answer) (s' : State) : Type 0 where
+pub record LawKept (m : Meaning) (h : List Entry) (s : State) (e : Entry) (a : Answer) (s' : State) : Type 0 where
   pub lawful : Lawful m (e ∷ h) s'
   pub now : Law (book_of h) s e a s'
 
 abbrev pub Keeps : State → Call → ℕ → Answer → List ℕ → State → Type 0
-Keeps s c n a sent s' = (m : Meaning) (h : List Entry) → Run m h s → Kept m h s (entry c n sent) a s'
+Keeps s c n a sent s' = (m : Meaning) (h : List Entry) → Run m h s → LawKept m h s (entry c n sent) a s'
 
 -- A list of calls played on a fresh end, all with one log.
 
@@ -165,7 +165,7 @@ Shared n [] = Unit {0}
 Shared n (e ∷ h) = (e.room ≡ room_for e.call (n - length (sent_by h))) × Shared n h
 
 -- a call that finds so much room leads from s to s', in range, and sends these bytes
-pub record Served (c : Call) (room : ℕ) (s : State) (sent : List ℕ) (s' : State) : Type 0 where
+pub record CallMade (c : Call) (room : ℕ) (s : State) (sent : List ℕ) (s' : State) : Type 0 where
   pub answer : Answer
   pub step : Step s c (room_for c room) answer sent s'
   pub ranged : InRange s'

@@ -1,18 +1,18 @@
 -- What comes of a byte, by the end's address a, what its head means m, and its sockets k: a fault if any, the bytes sent,
 -- the address then, and the deed.
-use Rattle.std.specs.Prelude.{ℕ, ◌+◌, ◌*◌, cond, List, [], ◌∷◌, ◌++◌, length, Some, None, Ok, Err, Option, Result}
-use Rattle.end.specs.declared.fault.Cause.{Cause}
-use Rattle.end.specs.declared.fault.Cause.TheVariants.{Framing, Packet}
+use Rattle.std.specs.Prelude.{ℕ, ◌+◌, ◌*◌, if◌then◌else◌, List, [], ◌∷◌, ◌++◌, length, Some, None, Ok, Err, Option, Result}
+use Rattle.end.specs.declared.faults.Cause.{Cause}
+use Rattle.end.specs.declared.faults.Cause.TheVariants.{Framing, Packet}
 use Rattle.end.specs.declared.socket.Sockets.{Sockets}
 use Rattle.end.specs.Deeds.{Deed, nothing, clears, cancels, starts, displaces, ticks, other}
-use Rattle.end.specs.Faults.{Answer, counts, faults, code_of}
+use Rattle.end.specs.Faults.{Answer, counts, faults, cause_code}
 use Rattle.end.specs.Sockets.{is_open, socket_at, full, free, powering_in}
 use Rattle.head.specs.declared.order.Order.{Order}
 use Rattle.head.specs.declared.outcome.Ending.{Ending}
 use Rattle.head.specs.declared.outcome.Ending.TheVariants.{Done, Jammed}
 use Rattle.head.specs.declared.outcome.Endings.{Endings}
 use Rattle.head.specs.Meaning.{Meaning, in_use}
-use Rattle.rows.specs.declared.fault.PacketFault.{PacketFault}
+use Rattle.rows.specs.declared.faults.PacketFault.{PacketFault}
 use Rattle.rows.specs.declared.request.Request.{Request}
 use Rattle.rows.specs.declared.request.Request.TheVariants.{Command, Ask}
 use Rattle.rows.specs.Answers as inquiry
@@ -53,25 +53,21 @@ own a r = packet (own_header a) r
 -- a command that gets socket y; one in the other socket that names a common setting is displaced, which is told first
 abbrev pub taken : ℕ → Sockets → ℕ → Order → Outcome
 taken a k y o =
-    cond (in_use (socket_at k (other y)) o)
-    (does a (displaces y o) (own a (Error (other y) CancelledCommand) ++ own a (Acknowledgement y)))
-    (does a (starts y o) (own a (Acknowledgement y)))
+    if in_use (socket_at k (other y)) o then does a (displaces y o) (own a (Error (other y) CancelledCommand) ++ own a (Acknowledgement y)) else does a (starts y o) (own a (Acknowledgement y))
 
 -- an admitted command
 abbrev pub commanded : ℕ → Meaning → Sockets → Order → Outcome
 commanded a m k o =
-    cond (full k) (sends a (own a (Error 0 BufferFull)))
-    (cond (forbidden_by m.setting m.pantilt (powering_in k) o) (sends a (own a (Error 0 NotExecutable)))
-    (taken a k (free k) o))
+    if full k then sends a (own a (Error 0 BufferFull)) else (if forbidden_by m.setting m.pantilt (powering_in k) o then sends a (own a (Error 0 NotExecutable)) else taken a k (free k) o)
 
 abbrev pub requested : ℕ → Meaning → Sockets → Result Request PacketFault → Outcome
 requested a m k (Ok (Command row o)) = commanded a m k o
-requested a m k (Ok (Ask q)) = sends a (inquiry.answered (own_header a) q m.setting m.pantilt)
+requested a m k (Ok (Ask q)) = sends a (inquiry.answer_packet (own_header a) q m.setting m.pantilt)
 requested a m k (Err f) = fails a (Packet f) (own a (Error 0 Syntax))
 
 -- a cancel of socket y
 abbrev pub cancelled : ℕ → Sockets → ℕ → Outcome
-cancelled a k y = cond (is_open (socket_at k y)) (does a (cancels y) (own a (Error y CancelledCommand))) (sends a (own a (Error y NoSocket)))
+cancelled a k y = if is_open (socket_at k y) then does a (cancels y) (own a (Error y CancelledCommand)) else sends a (own a (Error y NoSocket))
 
 -- a whole packet p, by the first rule that it meets
 abbrev pub met : ℕ → Meaning → Sockets → List ℕ → Rule → Outcome
@@ -101,7 +97,7 @@ ticked a e = does a (ticks e) (ended (own_header a) 1 e.one ++ ended (own_header
 
 abbrev pub answer_with : List ℕ → Option Cause → Answer
 answer_with bytes None = counts (length bytes)
-answer_with bytes (Some f) = faults (code_of f) (length bytes)
+answer_with bytes (Some f) = faults (cause_code f) (length bytes)
 
 -- what the call answers: the count sent, with the fault if there is one
 abbrev pub answer_of : Outcome → Answer

@@ -1,9 +1,9 @@
 -- What the law means for whoever sends commands: a cancel always works, every acknowledged command is ended, and what is sent is
 -- whole packets.
-use Rattle.std.specs.Prelude.{◌≡◌, ℕ, ◌+◌, ◌*◌, ◌≤◌, true, cond, ◌⊎◌, List, [], ◌∷◌, ◌++◌, Some, None, Option, ◌==◌}
+use Rattle.std.specs.Prelude.{◌≡◌, ℕ, ◌+◌, ◌*◌, ◌≤◌, true, if◌then◌else◌, ◌⊎◌, List, [], ◌∷◌, ◌++◌, Some, None, Option, ◌==◌}
 use Rattle.end.specs.declared.call.Call.{Call}
 use Rattle.end.specs.declared.call.Call.TheVariants.{Byte, Tick, Open}
-use Rattle.end.specs.Book.{Book, Entry, Seen, closed, working, between, inside, ends, word, cut, notes, made_whole, clearing, accepted, book_of}
+use Rattle.end.specs.Book.{Book, Entry, Seen, closed, working, between, inside, ends, said_of, cut, before_replies, made_whole, clearing, accepted, book_of}
 use Rattle.end.specs.Faults.{Answer, counts}
 use Rattle.end.specs.Law.{Run, WholePackets, entry}
 use Rattle.end.specs.States.{State}
@@ -16,7 +16,7 @@ pub data Number : ℕ → Type 0 where
   two : Number 2
 
 abbrev pub seen_at : Book → ℕ → Seen
-seen_at k y = cond (y == 1) k.one k.two
+seen_at k y = if y == 1 then k.one else k.two
 
 -- A cancel.
 
@@ -67,7 +67,7 @@ AWholeCancelIsNeverRefused =
 -- An acknowledged command. An entry sends an ending of socket y, or makes a clearing whole; k is the book before it.
 abbrev pub Ending : ℕ → ℕ → List (List ℕ) → Type 0
 Ending a y [] = ⊥
-Ending a y (q ∷ qs) = (word a y q ≡ ends) ⊎ Ending a y qs
+Ending a y (q ∷ qs) = (said_of a y q ≡ ends) ⊎ Ending a y qs
 
 abbrev pub ClearedBy : ℕ → Option (List ℕ) → Type 0
 ClearedBy a None = ⊥
@@ -80,7 +80,7 @@ Clearing k Open = ⊥
 
 pub record Over (k : Book) (y : ℕ) (e : Entry) : Type 0 where
   pub taken : accepted e.call e.room ≡ true
-  pub how : Ending (notes k e.call).address y (cut e.sent) ⊎ Clearing k e.call
+  pub how : Ending (before_replies k e.call).address y (cut e.sent) ⊎ Clearing k e.call
 
 -- some entry of `later`, which came behind the run h, does so; the newest stands first
 abbrev pub OverIn : ℕ → List Entry → List Entry → Type 0
@@ -90,7 +90,7 @@ OverIn y h (e ∷ later) = Over (book_of (later ++ h)) y e ⊎ OverIn y h later
 -- accepted ticks
 abbrev pub counted : Call → ℕ → ℕ
 counted (Byte b) room = 0
-counted Tick room = cond (accepted Tick room) 1 0
+counted Tick room = if accepted Tick room then 1 else 0
 counted Open room = 0
 
 abbrev pub ticks_in : List Entry → ℕ

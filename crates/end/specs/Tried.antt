@@ -4,7 +4,7 @@ use Rattle.end.specs.declared.call.Call.TheVariants.{Byte, Tick, Open}
 use Rattle.end.specs.declared.socket.Sockets.{Sockets}
 use Rattle.end.specs.Book.{Entry, Seen, closed, working, book_of}
 use Rattle.end.specs.Deeds.{sockets_after, both_idle}
-use Rattle.end.specs.Law.{read_as, Holds, WholePackets, InOrder, InTime, entry}
+use Rattle.end.specs.Law.{read_as, SlotAgrees, WholePackets, InOrder, InTime, entry}
 use Rattle.end.specs.Outcomes.{met}
 use Rattle.end.specs.Sockets.{both_closed}
 use Rattle.head.specs.declared.order.Order.{Order}
@@ -59,16 +59,16 @@ exchanges =
     ((0x90 ∷ 0x41 ∷ 0xff ∷ []) ∷ (0x90 ∷ 0x61 ∷ 0x04 ∷ 0xff ∷ []) ∷ (0x90 ∷ 0x61 ∷ 0x05 ∷ 0xff ∷ []) ∷ [])
     ∷ []
 
-abbrev given : List Exchange → List (List (List ℕ))
-given [] = []
-given (x ∷ xs) = answers x.address both_closed x.come ∷ given xs
+abbrev exchanges_made : List Exchange → List (List (List ℕ))
+exchanges_made [] = []
+exchanges_made (x ∷ xs) = answers x.address both_closed x.come ∷ exchanges_made xs
 
-abbrev wanted : List Exchange → List (List (List ℕ))
-wanted [] = []
-wanted (x ∷ xs) = x.sent ∷ wanted xs
+abbrev exchanges_wanted : List Exchange → List (List (List ℕ))
+exchanges_wanted [] = []
+exchanges_wanted (x ∷ xs) = x.sent ∷ exchanges_wanted xs
 
 abbrev pub TriedExchangesHold : Type 0
-TriedExchangesHold = given exchanges ≡ wanted exchanges
+TriedExchangesHold = exchanges_made exchanges ≡ exchanges_wanted exchanges
 
 -- The book.
 
@@ -152,12 +152,12 @@ abbrev books : List Reading → List (ℕ × Seen × Seen)
 books [] = []
 books (r ∷ rs) = let k = book_of (run_of r.parts []) in (k.address, k.one, k.two) ∷ books rs
 
-abbrev told : List Reading → List (ℕ × Seen × Seen)
-told [] = []
-told (r ∷ rs) = (r.address, r.one, r.two) ∷ told rs
+abbrev books_wanted : List Reading → List (ℕ × Seen × Seen)
+books_wanted [] = []
+books_wanted (r ∷ rs) = (r.address, r.one, r.two) ∷ books_wanted rs
 
 abbrev pub TheBookReadsRuns : Type 0
-TheBookReadsRuns = books readings ≡ told readings
+TheBookReadsRuns = books readings ≡ books_wanted readings
 
 -- The law.
 
@@ -170,7 +170,7 @@ pub record TheLawExcludes : Type 0 where
   pub ending_of_none : InOrder 1 1 zoom ((0x90 ∷ 0x51 ∷ 0xff ∷ []) ∷ []) closed → ⊥
   pub ending_twice : InOrder 1 1 zoom ((0x90 ∷ 0x61 ∷ 0x04 ∷ 0xff ∷ []) ∷ (0x90 ∷ 0x51 ∷ 0xff ∷ []) ∷ []) (working zoom 0) → ⊥
   pub thousand_ticks : InTime (working zoom 1000) → ⊥
-  pub open_with_no_order : Holds (working zoom 0) idle → ⊥
-  pub order_with_none_open : (o : Order) (n : ℕ) → Holds closed (busy o n) → ⊥
+  pub open_with_no_order : SlotAgrees (working zoom 0) idle → ⊥
+  pub order_with_none_open : (o : Order) (n : ℕ) → SlotAgrees closed (busy o n) → ⊥
   -- a mute in the slot of a zoom
-  pub another_order : (o : Order) (n : ℕ) → read_as mute ≡ Some o → Holds (working zoom 0) (busy o n) → ⊥
+  pub another_order : (o : Order) (n : ℕ) → read_as mute ≡ Some o → SlotAgrees (working zoom 0) (busy o n) → ⊥

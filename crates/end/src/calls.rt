@@ -2,17 +2,17 @@
 
 ghost use Rattle.std.specs.Prelude.{◌≡◌, ℕ, Some, ◌<◌, ◌≤◌, [], ◌++◌, length, take, drop, OnOk, IfErr};
 ghost use Rattle.end.specs.Deeds.{Cleared, settled as settled_by};
-ghost use Rattle.end.specs.Faults.{answered, count, opens, refused};
+ghost use Rattle.end.specs.Faults.{answered, count_told, opens, refused};
 ghost use Rattle.end.specs.Law.{Keeps};
 ghost use Rattle.end.specs.Outcomes.{ended as ended_by};
-ghost use Rattle.end.specs.Sockets.{number};
+ghost use Rattle.end.specs.Sockets.{socket_number};
 ghost use Rattle.end.specs.States.{meaning, state};
 ghost use Rattle.end.specs.Steps.{Made, Step};
 ghost use Rattle.rules.specs.Replies.{packet as packet_of};
 
 use crate::call::Call;
 use crate::end::End;
-use crate::fault::{Cause, Fault};
+use crate::faults::{Cause, Fault};
 use crate::sending::{ROOM, both, put};
 use crate::socket::{OpenSockets, Sockets, Which};
 use head::{Ending, Endings, Head, Look, Order};
@@ -53,7 +53,7 @@ fn settle(socket: &mut Option<Order>, ending: Option<Ending>)
 
 // What a socket tells of its ending.
 fn ended(which: Which, ending: Ending) -> Reply
-    ensures told { (header : ℕ) → packet_of header result ≡ ended_by header (number which) (Some ending) }
+    ensures told { (header : ℕ) → packet_of header result ≡ ended_by header (socket_number which) (Some ending) }
     ensures few { (header : ℕ) → length (packet_of header result) ≤ 4 }
 {
     let number = which.number();
@@ -99,8 +99,8 @@ impl<H: Head> End<H> {
     // of the code; so it is for a tick.
     #[inline]
     fn take_byte(&mut self, byte: u8, out: &mut [u8]) -> Result<usize, Fault>
-        ensures step { Step (state self.old) (Call.Byte byte) (length out.old) (answered result) (take (count result) out.new) (state self.new) }
-        ensures untouched { drop (count result) out.new ≡ drop (count result) out.old }
+        ensures step { Step (state self.old) (Call.Byte byte) (length out.old) (answered result) (take (count_told result) out.new) (state self.new) }
+        ensures untouched { drop (count_told result) out.new ≡ drop (count_told result) out.old }
     {
         room(out)?;
         let whole = self.framer.feed(byte)?;
@@ -112,8 +112,8 @@ impl<H: Head> End<H> {
 
     #[inline(always)]
     fn take_tick(&mut self, out: &mut [u8]) -> Result<usize, Fault>
-        ensures step { Step (state self.old) Call.Tick (length out.old) (answered result) (take (count result) out.new) (state self.new) }
-        ensures untouched { drop (count result) out.new ≡ drop (count result) out.old }
+        ensures step { Step (state self.old) Call.Tick (length out.old) (answered result) (take (count_told result) out.new) (state self.new) }
+        ensures untouched { drop (count_told result) out.new ≡ drop (count_told result) out.old }
     {
         room(out)?;
         let endings = self.head.tick();
@@ -130,10 +130,10 @@ impl<H: Head> End<H> {
     /// the count, or a fault with the count sent.
     #[inline]
     pub fn byte(&mut self, byte: u8, out: &mut [u8]) -> Result<usize, Fault>
-        ensures step { Step (state self.old) (Call.Byte byte) (length out.old) (answered result) (take (count result) out.new) (state self.new) }
-        ensures untouched { drop (count result) out.new ≡ drop (count result) out.old }
-        ensures within { count result ≤ length out.new }
-        ensures law { Keeps (state self.old) (Call.Byte byte) (length out.old) (answered result) (take (count result) out.new) (state self.new) }
+        ensures step { Step (state self.old) (Call.Byte byte) (length out.old) (answered result) (take (count_told result) out.new) (state self.new) }
+        ensures untouched { drop (count_told result) out.new ≡ drop (count_told result) out.old }
+        ensures within { count_told result ≤ length out.new }
+        ensures law { Keeps (state self.old) (Call.Byte byte) (length out.old) (answered result) (take (count_told result) out.new) (state self.new) }
     {
         self.take_byte(byte, out)
     }
@@ -141,10 +141,10 @@ impl<H: Head> End<H> {
     /// Ticks the head once. Socket 1 and then 2 sends its ending, if its order ended, and closes.
     #[inline(always)]
     pub fn tick(&mut self, out: &mut [u8]) -> Result<usize, Fault>
-        ensures step { Step (state self.old) Call.Tick (length out.old) (answered result) (take (count result) out.new) (state self.new) }
-        ensures untouched { drop (count result) out.new ≡ drop (count result) out.old }
-        ensures within { count result ≤ length out.new }
-        ensures law { Keeps (state self.old) Call.Tick (length out.old) (answered result) (take (count result) out.new) (state self.new) }
+        ensures step { Step (state self.old) Call.Tick (length out.old) (answered result) (take (count_told result) out.new) (state self.new) }
+        ensures untouched { drop (count_told result) out.new ≡ drop (count_told result) out.old }
+        ensures within { count_told result ≤ length out.new }
+        ensures law { Keeps (state self.old) Call.Tick (length out.old) (answered result) (take (count_told result) out.new) (state self.new) }
     {
         self.take_tick(out)
     }

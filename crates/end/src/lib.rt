@@ -7,7 +7,7 @@ mod call;
 mod calls;
 mod deeds;
 mod end;
-mod fault;
+mod faults;
 mod packets;
 pub mod promises;
 mod script;
@@ -17,7 +17,7 @@ pub mod tried;
 
 pub use call::Call;
 pub use end::End;
-pub use fault::{Cause, Fault, bytes_sent};
+pub use faults::{Cause, Fault, bytes_sent};
 pub use script::play;
 pub use sending::ROOM;
 pub use socket::{OpenSockets, Sockets};

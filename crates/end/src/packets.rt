@@ -2,10 +2,10 @@
 
 ghost use Rattle.std.specs.Prelude.{◌≡◌, ◌≤◌, length, take, drop, Ok};
 ghost use Rattle.end.specs.Outcomes.{own, own_header as own_header_of, taken as taken_by, commanded as commanded_by, requested as requested_by, cancelled as cancelled_by, met as met_by};
-ghost use Rattle.end.specs.Sockets.{number, powering_in};
+ghost use Rattle.end.specs.Sockets.{socket_number, powering_in};
 ghost use Rattle.end.specs.States.{state};
 ghost use Rattle.end.specs.Steps.{Came};
-ghost use Rattle.end.specs.Faults.{answered as answered_of, count, counts};
+ghost use Rattle.end.specs.Faults.{answered as answered_of, count_told, counts};
 ghost use Rattle.rules.specs.Modes.{forbidden_by};
 ghost use Rattle.rules.specs.Ring.{rule_of};
 ghost use Rattle.rows.specs.Requests.{as_command, as_inquiry, read_body};
@@ -14,11 +14,11 @@ ghost use Rattle.rows.specs.Orders.{order_of};
 ghost use Rattle.rows.specs.Inquiries.{read_inquiry as inquiry_read};
 ghost use Rattle.rules.specs.declared.reply.Reply.TheVariants.{Error};
 ghost use Rattle.rules.specs.declared.reply.Problem.TheVariants.{Syntax};
-ghost use Rattle.end.specs.declared.fault.Cause.TheVariants.{Packet as PacketF};
+ghost use Rattle.end.specs.declared.faults.Cause.TheVariants.{Packet as PacketF};
 ghost use Rattle.wire.specs.Framing.{bytes_of};
 
 use crate::end::End;
-use crate::fault::{Cause, Fault};
+use crate::faults::{Cause, Fault};
 use crate::sending::{both, put};
 use crate::socket::Which;
 use head::{Head, Order};
@@ -56,7 +56,7 @@ impl<H: Head> End<H> {
     // A command for a socket, with the other's displaced where it names a common setting.
     fn accept(&mut self, which: Which, order: &Order, out: &mut [u8]) -> usize
         requires { 16 ≤ length out.old }
-        ensures came { Came (state self.old) (state self.old).held (taken_by self.old.address self.old.sockets (number which) order.now) (counts result) (take result out.new) (state self.new) }
+        ensures came { Came (state self.old) (state self.old).held (taken_by self.old.address self.old.sockets (socket_number which) order.now) (counts result) (take result out.new) (state self.new) }
         ensures untouched { drop result out.new ≡ drop result out.old }
     {
         let other = which.other();
@@ -123,8 +123,8 @@ impl<H: Head> End<H> {
     #[inline(never)]
     fn commanded(&mut self, rest: &[u8], out: &mut [u8]) -> Result<usize, Fault>
         requires { 16 ≤ length out.old }
-        ensures came { Came (state self.old) (state self.old).held (requested_by self.old.address (state self.old).head self.old.sockets (as_command (command_read rest.now))) (answered_of result) (take (count result) out.new) (state self.new) }
-        ensures untouched { drop (count result) out.new ≡ drop (count result) out.old }
+        ensures came { Came (state self.old) (state self.old).held (requested_by self.old.address (state self.old).head self.old.sockets (as_command (command_read rest.now))) (answered_of result) (take (count_told result) out.new) (state self.new) }
+        ensures untouched { drop (count_told result) out.new ≡ drop (count_told result) out.old }
     {
         match find_command(rest) {
             Ok((_, command)) => Ok(self.command(&command, out)),
@@ -136,8 +136,8 @@ impl<H: Head> End<H> {
     #[inline(always)]
     fn asked(&mut self, rest: &[u8], out: &mut [u8]) -> Result<usize, Fault>
         requires { 16 ≤ length out.old }
-        ensures came { Came (state self.old) (state self.old).held (requested_by self.old.address (state self.old).head self.old.sockets (as_inquiry (inquiry_read rest.now))) (answered_of result) (take (count result) out.new) (state self.new) }
-        ensures untouched { drop (count result) out.new ≡ drop (count result) out.old }
+        ensures came { Came (state self.old) (state self.old).held (requested_by self.old.address (state self.old).head self.old.sockets (as_inquiry (inquiry_read rest.now))) (answered_of result) (take (count_told result) out.new) (state self.new) }
+        ensures untouched { drop (count_told result) out.new ≡ drop (count_told result) out.old }
     {
         match read_inquiry(rest) {
             Ok((_, inquiry)) => Ok(answer(&self.head, inquiry, self.own_header(), out).unwrap()),
@@ -149,8 +149,8 @@ impl<H: Head> End<H> {
     #[inline(always)]
     fn request(&mut self, body: &[u8], out: &mut [u8]) -> Result<usize, Fault>
         requires { 16 ≤ length out.old }
-        ensures came { Came (state self.old) (state self.old).held (requested_by self.old.address (state self.old).head self.old.sockets (read_body body.now)) (answered_of result) (take (count result) out.new) (state self.new) }
-        ensures untouched { drop (count result) out.new ≡ drop (count result) out.old }
+        ensures came { Came (state self.old) (state self.old).held (requested_by self.old.address (state self.old).head self.old.sockets (read_body body.now)) (answered_of result) (take (count_told result) out.new) (state self.new) }
+        ensures untouched { drop (count_told result) out.new ≡ drop (count_told result) out.old }
     {
         match body {
             [COMMAND, rest @ ..] => self.commanded(rest, out),
@@ -164,8 +164,8 @@ impl<H: Head> End<H> {
     #[inline(always)]
     pub(crate) fn meet(&mut self, packet: &Packet, out: &mut [u8]) -> Result<usize, Fault>
         requires { 16 ≤ length out.old }
-        ensures came { Came (state self.old) (state self.old).held (met_by self.old.address (state self.old).head self.old.sockets (bytes_of packet.now) (rule_of self.old.address (bytes_of packet.now))) (answered_of result) (take (count result) out.new) (state self.new) }
-        ensures untouched { drop (count result) out.new ≡ drop (count result) out.old }
+        ensures came { Came (state self.old) (state self.old).held (met_by self.old.address (state self.old).head self.old.sockets (bytes_of packet.now) (rule_of self.old.address (bytes_of packet.now))) (answered_of result) (take (count_told result) out.new) (state self.new) }
+        ensures untouched { drop (count_told result) out.new ≡ drop (count_told result) out.old }
     {
         self.by_rule(packet, out)
     }
@@ -174,8 +174,8 @@ impl<H: Head> End<H> {
     #[inline(never)]
     fn by_rule(&mut self, packet: &Packet, out: &mut [u8]) -> Result<usize, Fault>
         requires { 16 ≤ length out.old }
-        ensures came { Came (state self.old) (state self.old).held (met_by self.old.address (state self.old).head self.old.sockets (bytes_of packet.now) (rule_of self.old.address (bytes_of packet.now))) (answered_of result) (take (count result) out.new) (state self.new) }
-        ensures untouched { drop (count result) out.new ≡ drop (count result) out.old }
+        ensures came { Came (state self.old) (state self.old).held (met_by self.old.address (state self.old).head self.old.sockets (bytes_of packet.now) (rule_of self.old.address (bytes_of packet.now))) (answered_of result) (take (count_told result) out.new) (state self.new) }
+        ensures untouched { drop (count_told result) out.new ≡ drop (count_told result) out.old }
     {
         match Rule::of(self.address, packet) {
             Rule::TakenOff => Ok(0),

@@ -1,19 +1,19 @@
 //! A list of calls, played on a fresh end.
 
 ghost use Rattle.std.specs.Prelude.{◌≡◌, ◌+◌, ◌-◌, ◌≤◌, length, take, drop};
-ghost use Rattle.end.specs.Law.{Played, Served};
+ghost use Rattle.end.specs.Law.{Played, CallMade};
 ghost use Rattle.end.specs.States.{meaning, state};
 
 use crate::call::Call;
 use crate::end::End;
-use crate::fault::bytes_sent;
+use crate::faults::bytes_sent;
 use head::{Head, Look};
 
 // A call, with the rest of the log as its buffer.
 fn serve<H: Head>(end: &mut End<H>, call: Call, out: &mut [u8]) -> usize
     ensures within { result ≤ length out.new }
     ensures untouched { drop result out.new ≡ drop result out.old }
-    ensures served { Served call (length out.old) (state end.old) (take result out.new) (state end.new) }
+    ensures served { CallMade call (length out.old) (state end.old) (take result out.new) (state end.new) }
 {
     // Calls are data and no closures, so that a list of them can be stated and read.
     match call {
@@ -32,7 +32,7 @@ fn log_call<H: Head>(end: &mut End<H>, call: Call, log: &mut [u8], count: usize)
     ensures within { count + result ≤ length log.new }
     ensures logged { take count log.new ≡ take count log.old }
     ensures untouched { drop (count + result) log.new ≡ drop (count + result) log.old }
-    ensures served { Served call (length log.old - count) (state end.old) (take result (drop count log.new)) (state end.new) }
+    ensures served { CallMade call (length log.old - count) (state end.old) (take result (drop count log.new)) (state end.new) }
 {
     let (_, rest) = log.split_at_mut(count);
     serve(end, call, rest)

@@ -2,7 +2,7 @@
 
 ghost use Rattle.std.specs.Prelude.{◌≡◌, Some, None};
 ghost use Rattle.end.specs.Deeds.{other as other_of};
-ghost use Rattle.end.specs.Sockets.{is_open, number as number_of, numbered, socket_at, with_socket, full as full_of, free as free_of, powering_in};
+ghost use Rattle.end.specs.Sockets.{is_open, socket_number as number_of, socket_numbered, socket_at, with_socket, full as full_of, free as free_of, powering_in};
 ghost use Rattle.head.specs.Meaning.{in_use, lent};
 
 use head::Order;
@@ -42,7 +42,7 @@ pub(crate) enum Which {
 impl Which {
     /// The socket with this number on the line, if there is one.
     pub(crate) fn numbered(number: u8) -> Option<Which>
-        ensures { result ≡ numbered number }
+        ensures { result ≡ socket_numbered number }
     {
         match number {
             1 => Some(Which::One),

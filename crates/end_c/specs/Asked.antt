@@ -1,10 +1,10 @@
 -- Calls as numbers.
-use Rattle.std.specs.Prelude.{ℕ, ◌-◌, ◌/◌, ◌%◌, cond, nat_lt, nat_eq}
+use Rattle.std.specs.Prelude.{ℕ, ◌-◌, ◌/◌, ◌%◌, if◌then◌else◌, nat_lt, nat_eq}
 use Rattle.end.specs.declared.call.Call.{Call}
 use Rattle.end.specs.declared.call.Call.TheVariants.{Byte, Tick, Open}
 
 abbrev called : ℕ → Call
-called n = cond (nat_lt n 256) (Byte n) (cond (nat_eq n 256) Tick Open)
+called n = if nat_lt n 256 then Byte n else (if nat_eq n 256 then Tick else Open)
 
 -- the low nine bits are a byte, a tick or the question which sockets are open
 abbrev pub call_of : ℕ → Call

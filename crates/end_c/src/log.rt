@@ -4,9 +4,10 @@ ghost use Rattle.std.specs.Prelude.{◌≡◌, ◌+◌, ◌≤◌, length, take,
 
 use crate::asked::Asked;
 use end::{Call, End, Fault, bytes_sent};
+use fault::FaultCode;
 use head::Head;
 use heads::{Block, Dome};
-use wire::{FaultCode, send_at};
+use wire::send_at;
 
 // A record has a count and a fault, or which sockets are open, and then what was sent.
 const RECORD: usize = 20;

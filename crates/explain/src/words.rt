@@ -1,7 +1,7 @@
 //! How values of other crates are said in words.
 
+use fault::FaultCode;
 use std::{fmt, io};
-use wire::FaultCode;
 
 /// A value, to be said in words.
 #[derive(Clone, Copy, Debug, PartialEq, Eq)]

@@ -1,3 +1,4 @@
+pub mod Cases
 pub mod Settings
 pub mod Orders
 pub mod Meaning

@@ -1,6 +1,6 @@
 -- What a head means: its settings, whether it has pan and tilt, and its two slots;
 -- and what looking, starting, ticking and dropping do to that.
-use Rattle.std.specs.Prelude.{◌≡◌, ℕ, ◌-◌, ◌<◌, ◌≤◌, Bool, false, cond, not, ◌&&◌, ◌||◌, ◌⊎◌, ℤ, pos, ◌≤ℤ◌, ◌<ℤ◌, is_some, Some, None, Ok, Err, Option, Result, ◌==◌, nat_lt}
+use Rattle.std.specs.Prelude.{◌≡◌, ℕ, ◌-◌, ◌<◌, ◌≤◌, Bool, false, if◌then◌else◌, not, ◌&&◌, ◌||◌, ◌⊎◌, ℤ, pos, ◌≤ℤ◌, ◌<ℤ◌, is_some, Some, None, Ok, Err, Option, Result, ◌==◌, nat_lt, [], ◌∷◌}
 use Rattle.std.specs.Borrow.{Bor}
 use Rattle.std.specs.Option.{option_map}
 use Rattle.head.specs.declared.order.Order.{Order}
@@ -12,6 +12,7 @@ use Rattle.head.specs.declared.outcome.Refusal.TheVariants.{NoSuchSlot, SlotBusy
 use Rattle.head.specs.declared.setting.Axis.{Axis}
 use Rattle.head.specs.declared.setting.Setting.{Setting}
 use Rattle.head.specs.Settings.{about, position, drive}
+use Rattle.head.specs.Cases.{first_case}
 use Rattle.head.specs.Orders.{parts, wants, all_in_range, any_pan_tilt, shares}
 
 -- A slot is idle, or holds an order with ticks left.
@@ -34,11 +35,11 @@ view f p g x = record { setting = f x; pantilt = p x; slots = g x }
 
 -- slot y; a number other than 1 and 2 is no slot, and so never busy
 abbrev pub at : Slots → ℕ → Slot
-at s y = cond (y == 1) s.one (cond (y == 2) s.two idle)
+at s y = if y == 1 then s.one else (if y == 2 then s.two else idle)
 
 -- with b in slot y
 abbrev pub put : Slots → ℕ → Slot → Slots
-put s y b = record { one = cond (y == 1) b s.one; two = cond (y == 2) b s.two }
+put s y b = record { one = if y == 1 then b else s.one; two = if y == 2 then b else s.two }
 
 abbrev pub left_of : Slot → ℕ
 left_of idle = 0
@@ -56,17 +57,17 @@ Timed (busy o n) = (1 ≤ n) × (n ≤ 1000)
 -- Start.
 
 -- the numbers of the reasons to turn an order down
-abbrev pub number : Refusal → ℕ
-number NoSuchSlot = 1
-number SlotBusy = 2
-number OutOfRange = 3
-number NoPanTilt = 4
-number SettingInUse = 5
+abbrev pub refusal_number : Refusal → ℕ
+refusal_number NoSuchSlot = 1
+refusal_number SlotBusy = 2
+refusal_number OutOfRange = 3
+refusal_number NoPanTilt = 4
+refusal_number SettingInUse = 5
 
 -- the number of the reason, and 0 for an order that was taken
-abbrev pub answered : Result (Unit {0}) Refusal → ℕ
-answered (Ok u) = 0
-answered (Err e) = number e
+abbrev pub reason_given : Result (Unit {0}) Refusal → ℕ
+reason_given (Ok u) = 0
+reason_given (Err e) = refusal_number e
 
 abbrev pub in_use : Option Order → Order → Bool
 in_use None o = false
@@ -75,12 +76,14 @@ in_use (Some p) o = shares (parts o.targets) (parts p.targets)
 -- the number of the first reason to turn order o down for slot y, by pan and tilt and the orders in the slots; 0 for none
 abbrev pub reason : Bool → Option Order → Option Order → ℕ → Order → ℕ
 reason pantilt one two y o =
-    cond (not (y == 1 || y == 2)) 1
-    (cond (is_some (cond (y == 1) one two)) 2
-    (cond (not (all_in_range (parts o.targets))) 3
-    (cond (not pantilt && any_pan_tilt (parts o.targets)) 4
-    (cond (in_use (cond (y == 1) two one) o) 5
-    0))))
+    first_case (
+    (not (y == 1 || y == 2), 1)
+    ∷ (is_some (if y == 1 then one else two), 2)
+    ∷ (not (all_in_range (parts o.targets)), 3)
+    ∷ (not pantilt && any_pan_tilt (parts o.targets), 4)
+    ∷ (in_use (if y == 1 then two else one) o, 5)
+    ∷ []
+    ) 0
 
 -- an order that is lent, where there is one
 abbrev pub lent : Option (Bor Order) → Option Order
@@ -120,7 +123,7 @@ pub record Dropped (m : Meaning) (y : ℕ) (m' : Meaning) : Type 0 where
 -- what a tick leaves in a slot
 abbrev pub rest : Slot → Slot
 rest idle = idle
-rest (busy o n) = cond (nat_lt 1 n) (busy o (n - 1)) idle
+rest (busy o n) = if nat_lt 1 n then busy o (n - 1) else idle
 
 -- a slot over a tick that tells e of it: one tick fewer, or idle and told after the last
 abbrev pub SlotTicked : Slot → Option Ending → Slot → Type 0

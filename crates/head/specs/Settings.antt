@@ -8,7 +8,7 @@ use Rattle.head.specs.declared.setting.Axis.TheVariants as axis
 use Rattle.head.specs.declared.setting.Range.{Range}
 use Rattle.head.specs.declared.setting.Range.TheVariants.{Switch, WhiteBalance as White, Exposure, Span}
 
-pub record Entry : Type 0 where
+pub record Facts : Type 0 where
   pub number : ℕ
   pub range : Range
   -- of a position, what it is the position of
@@ -16,33 +16,33 @@ pub record Entry : Type 0 where
   -- the value with which our heads are made
   pub first : ℤ
 
-abbrev entry : ℕ → Range → Option Axis → ℤ → Entry
-entry n r a v = record { number = n; range = r; axis = a; first = v }
+abbrev facts : ℕ → Range → Option Axis → ℤ → Facts
+facts n r a v = record { number = n; range = r; axis = a; first = v }
 
 -- the table of settings
-abbrev pub about : Setting → Entry
-about Power = entry 0 Switch None (pos 2)
-about Zoom = entry 1 (Span (pos 0) (pos 0x4000)) (Some axis.Zoom) (pos 0)
-about ZoomDrive = entry 2 (Span (negsuc 7) (pos 8)) None (pos 0)
-about FocusMode = entry 3 Switch None (pos 2)
-about Focus = entry 4 (Span (pos 0) (pos 0xffff)) (Some axis.Focus) (pos 0)
-about FocusDrive = entry 5 (Span (negsuc 7) (pos 8)) None (pos 0)
-about WhiteBalance = entry 6 White None (pos 0)
-about RedGain = entry 7 (Span (pos 0) (pos 255)) None (pos 0)
-about BlueGain = entry 8 (Span (pos 0) (pos 255)) None (pos 0)
-about ExposureMode = entry 9 Exposure None (pos 0)
-about Shutter = entry 10 (Span (pos 0) (pos 255)) None (pos 0)
-about Iris = entry 11 (Span (pos 0) (pos 255)) None (pos 0)
-about Gain = entry 12 (Span (pos 0) (pos 255)) None (pos 0)
-about Bright = entry 13 (Span (pos 0) (pos 255)) None (pos 0)
-about Freeze = entry 14 Switch None (pos 3)
-about Mute = entry 15 Switch None (pos 3)
-about Infrared = entry 16 Switch None (pos 3)
-about Identity = entry 17 (Span (pos 0) (pos 0xffff)) None (pos 0)
-about Pan = entry 18 (Span (negsuc 5119) (pos 5120)) (Some axis.Pan) (pos 0)
-about Tilt = entry 19 (Span (negsuc 1279) (pos 1280)) (Some axis.Tilt) (pos 0)
-about PanDrive = entry 20 (Span (negsuc 23) (pos 24)) None (pos 0)
-about TiltDrive = entry 21 (Span (negsuc 19) (pos 20)) None (pos 0)
+abbrev pub about : Setting → Facts
+about Power = facts 0 Switch None (pos 2)
+about Zoom = facts 1 (Span (pos 0) (pos 0x4000)) (Some axis.Zoom) (pos 0)
+about ZoomDrive = facts 2 (Span (negsuc 7) (pos 8)) None (pos 0)
+about FocusMode = facts 3 Switch None (pos 2)
+about Focus = facts 4 (Span (pos 0) (pos 0xffff)) (Some axis.Focus) (pos 0)
+about FocusDrive = facts 5 (Span (negsuc 7) (pos 8)) None (pos 0)
+about WhiteBalance = facts 6 White None (pos 0)
+about RedGain = facts 7 (Span (pos 0) (pos 255)) None (pos 0)
+about BlueGain = facts 8 (Span (pos 0) (pos 255)) None (pos 0)
+about ExposureMode = facts 9 Exposure None (pos 0)
+about Shutter = facts 10 (Span (pos 0) (pos 255)) None (pos 0)
+about Iris = facts 11 (Span (pos 0) (pos 255)) None (pos 0)
+about Gain = facts 12 (Span (pos 0) (pos 255)) None (pos 0)
+about Bright = facts 13 (Span (pos 0) (pos 255)) None (pos 0)
+about Freeze = facts 14 Switch None (pos 3)
+about Mute = facts 15 Switch None (pos 3)
+about Infrared = facts 16 Switch None (pos 3)
+about Identity = facts 17 (Span (pos 0) (pos 0xffff)) None (pos 0)
+about Pan = facts 18 (Span (negsuc 5119) (pos 5120)) (Some axis.Pan) (pos 0)
+about Tilt = facts 19 (Span (negsuc 1279) (pos 1280)) (Some axis.Tilt) (pos 0)
+about PanDrive = facts 20 (Span (negsuc 23) (pos 24)) None (pos 0)
+about TiltDrive = facts 21 (Span (negsuc 19) (pos 20)) None (pos 0)
 
 abbrev pub number : Setting → ℕ
 number s = (about s).number
@@ -63,15 +63,16 @@ looked f n = option_map f (numbered n)
 abbrev pub same : Setting → Setting → Bool
 same s z = number s == number z
 
-abbrev is : ℤ → ℕ → Bool
-is (pos n) m = n == m
-is (negsuc n) m = false
+-- the value v is n
+abbrev pub has_value : ℤ → ℕ → Bool
+has_value (pos n) m = n == m
+has_value (negsuc n) m = false
 
 -- a value of a range: one of its list, or from the lowest to the highest
 abbrev pub within : Range → ℤ → Bool
-within Switch v = is v 2 || is v 3
-within White v = is v 0 || is v 1 || is v 2 || is v 3 || is v 5
-within Exposure v = is v 0 || is v 3 || is v 10 || is v 11 || is v 13
+within Switch v = has_value v 2 || has_value v 3
+within White v = has_value v 0 || has_value v 1 || has_value v 2 || has_value v 3 || has_value v 5
+within Exposure v = has_value v 0 || has_value v 3 || has_value v 10 || has_value v 11 || has_value v 13
 within (Span low high) v = int_le low v && int_le v high
 
 -- shut, since a search through several of them breaks off at a bound

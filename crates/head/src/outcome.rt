@@ -20,7 +20,7 @@ pub enum Refusal {
 }
 
 impl Refusal {
-    ghost use Rattle.head.specs.Meaning.{number as number_of};
+    ghost use Rattle.head.specs.Meaning.{refusal_number as number_of};
 
     /// The reason's number, 1 to 5.
     pub fn number(self) -> u8

@@ -1,7 +1,7 @@
 //! Whether a head can start an order: the five reasons against it, first to last.
 
 ghost use Rattle.std.specs.Prelude.{◌≡◌};
-ghost use Rattle.head.specs.Meaning.{answered, lent, reason};
+ghost use Rattle.head.specs.Meaning.{reason_given, lent, reason};
 
 use crate::order::Order;
 use crate::outcome::Refusal;
@@ -16,7 +16,7 @@ pub fn admit(
     slot: u8,
     order: &Order,
 ) -> Result<(), Refusal>
-    ensures { answered result ≡ reason pan_tilt (lent one.entry) (lent two.entry) slot order.now }
+    ensures { reason_given result ≡ reason pan_tilt (lent one.entry) (lent two.entry) slot order.now }
 {
     // A number, as a head is asked for it: the first reason is that there is no such slot.
     match slot {
@@ -34,7 +34,7 @@ fn admit_beside(
     other: Option<&Order>,
     order: &Order,
 ) -> Result<(), Refusal>
-    ensures { answered result ≡ reason pan_tilt (lent own.entry) (lent other.entry) 1 order.now }
+    ensures { reason_given result ≡ reason pan_tilt (lent own.entry) (lent other.entry) 1 order.now }
 {
     if own.is_some() {
         Err(Refusal::SlotBusy)

@@ -3,10 +3,13 @@
 //! Ghost members tell what an implementation means: its settings, whether it has pan and tilt,
 //! and its slots. The promises of the methods speak of these and of nothing else.
 
-ghost use Rattle.std.specs.Prelude.{◌≡◌, ℕ, Bool, true, ℤ};
+ghost use Rattle.std.specs.Prelude.{◌≡◌, ℕ, Bool, true, ℤ, Result};
+ghost use Rattle.head.specs.declared.order.Order.{Order};
+ghost use Rattle.head.specs.declared.outcome.Endings.{Endings};
+ghost use Rattle.head.specs.declared.outcome.Refusal.{Refusal};
 ghost use Rattle.head.specs.declared.setting.Setting.{Setting};
 ghost use Rattle.head.specs.Settings.{in_range, looked};
-ghost use Rattle.head.specs.Meaning.{Slots, at, Timed, view, answered, left_of, Started, Ticked, Dropped};
+ghost use Rattle.head.specs.Meaning.{Slots, at, Timed, view, reason_given, left_of, Started, Ticked, Dropped};
 
 use crate::order::Order;
 use crate::outcome::{Endings, Refusal};
@@ -32,9 +35,17 @@ pub trait Look {
 pub trait Head: Look {
     ghost slots: { Self → Slots };
 
-    // Each promise writes its view out: a member for it could be given another meaning, and a definition
-    // over the record of `Look` would be an import cycle. A slot is a number here and no enum, so that one
-    // that is neither 1 nor 2 is answered, and callers have nothing to show.
+    // What a call is between a head's own values: the head before it, what it was given, what it answered, and
+    // the head then. Who makes a head may take the meaning itself for it, or say more; whoever uses heads knows
+    // nothing of these, so that only the call itself can prove one.
+    ghost started: { Self → ℕ → Order → Result (Unit {0}) Refusal → Self → Type 0 };
+
+    ghost ticked: { Self → Endings → Self → Type 0 };
+
+    ghost dropped: { Self → ℕ → Self → Type 0 };
+
+    // A slot is a number here and no enum, so that one that is neither 1 nor 2 is answered, and callers have
+    // nothing to show.
 
     /// The ticks left of the slot's order; 0 if the slot is idle or is neither 1 nor 2.
     fn ticks_left(&self, slot: u8) -> u16
@@ -43,15 +54,23 @@ pub trait Head: Look {
     /// Has the slot hold the order, for ticks that the head chooses from 1 to 1,000; or turns the
     /// order down, with the first reason that fits, and leaves the head as it was.
     fn start(&mut self, slot: u8, order: &Order) -> Result<(), Refusal>
-        ensures { Started (view Self.Look.setting Self.Look.pantilt slots self.old) slot order.now (answered result) (view Self.Look.setting Self.Look.pantilt slots self.new) };
+        ensures { started self.old slot order.now result self.new };
 
     /// Goes on with both orders and tells which ended, and how.
     fn tick(&mut self) -> Endings
-        ensures { Ticked (view Self.Look.setting Self.Look.pantilt slots self.old) result (view Self.Look.setting Self.Look.pantilt slots self.new) };
+        ensures { ticked self.old result self.new };
 
     /// Makes the slot idle; a number that is neither 1 nor 2 changes nothing.
     fn drop_slot(&mut self, slot: u8)
-        ensures { Dropped (view Self.Look.setting Self.Look.pantilt slots self.old) slot (view Self.Look.setting Self.Look.pantilt slots self.new) };
+        ensures { dropped self.old slot self.new };
 
     ghost timed: { (x : Self) (y : ℕ) → Timed (at (slots x) y) };
+
+    // What the calls mean. Each law writes its view out: a member for it could be given another meaning, and a
+    // definition over the record of `Look` would be an import cycle.
+    ghost start_means: { (x : Self) (y : ℕ) (o : Order) (r : Result (Unit {0}) Refusal) (x' : Self) → started x y o r x' → Started (view Self.Look.setting Self.Look.pantilt slots x) y o (reason_given r) (view Self.Look.setting Self.Look.pantilt slots x') };
+
+    ghost tick_means: { (x : Self) (e : Endings) (x' : Self) → ticked x e x' → Ticked (view Self.Look.setting Self.Look.pantilt slots x) e (view Self.Look.setting Self.Look.pantilt slots x') };
+
+    ghost drop_means: { (x : Self) (y : ℕ) (x' : Self) → dropped x y x' → Dropped (view Self.Look.setting Self.Look.pantilt slots x) y (view Self.Look.setting Self.Look.pantilt slots x') };
 }

@@ -20,24 +20,24 @@ use Rattle.head.proofs.Tables.{same_is}
 use Rattle.heads.specs.declared.job.Job.{Job}
 use Rattle.heads.specs.declared.motion.Motion.{Motion}
 use Rattle.heads.specs.declared.rig.Rig.{Rig}
-use Rattle.heads.specs.Exact.{slot_of, is_done, pulled, unnamed, or_else, next}
-use Rattle.heads.specs.Rigs.{slots_of, given, closed, or, ordered, followed}
+use Rattle.heads.specs.Exact.{slot_of, is_done, pulled, unnamed, or_value, value_after}
+use Rattle.heads.specs.Rigs.{slots_of, target_given, closed, or, taken_by_orders, followed}
 
 same_sym : (s z : Setting) → same s z ≡ same z s
 same_sym s z = grind (arith, same_is s z, same_is z s)
 
 -- the first target's setting gets it, unless it is a position, and another is as the rest has it
 pub given_more : (t : Target) (ts : List Target) (s : Setting) (v : ℤ) →
-    given (about s).axis (wants (t ∷ ts) s) v ≡ cond (is_none (about t.setting).axis && same s t.setting) t.value (given (about s).axis (wants ts s) v)
+    target_given (about s).axis (wants (t ∷ ts) s) v ≡ cond (is_none (about t.setting).axis && same s t.setting) t.value (target_given (about s).axis (wants ts s) v)
 given_more t ts s v =
     elim (cases_Bool (same t.setting s)) [
       | inl e ↦
           let i = same_is t.setting s e in
-          subst (λ (z : Setting). given (about z).axis (wants (t ∷ ts) z) v ≡ cond (is_none (about t.setting).axis && same z t.setting) t.value (given (about z).axis (wants ts z) v)) i (by (about t.setting).axis)
+          subst (λ (z : Setting). target_given (about z).axis (wants (t ∷ ts) z) v ≡ cond (is_none (about t.setting).axis && same z t.setting) t.value (target_given (about z).axis (wants ts z) v)) i (by (about t.setting).axis)
       | inr e ↦ simp (e, same_sym s t.setting, and_right (is_none (about t.setting).axis) false refl)
     ]
   where
-    by : (x : Option Axis) → given x (wants (t ∷ ts) t.setting) v ≡ cond (is_none x && same t.setting t.setting) t.value (given x (wants ts t.setting) v)
+    by : (x : Option Axis) → target_given x (wants (t ∷ ts) t.setting) v ≡ cond (is_none x && same t.setting t.setting) t.value (target_given x (wants ts t.setting) v)
     by None = grind arith
     by (Some a) = refl
 
@@ -50,7 +50,7 @@ moves_all : (f g : Setting → ℤ) (s : Setting) → positions f g s ≡ cond (
 moves_all f g s = grind arith
 
 -- a slot's order that is done gives another setting its target
-closes : (b : Slot) (e : Option Ending) (s : Setting) (v : ℤ) → (about s).axis ≡ None → closed b e s v ≡ cond (is_done e) (or_else (wanted b s) v) v
+closes : (b : Slot) (e : Option Ending) (s : Setting) (v : ℤ) → (about s).axis ≡ None → closed b e s v ≡ cond (is_done e) (or_value (wanted b s) v) v
 closes idle e s v i = grind arith
 closes (busy o n) e s v i = simp i
 
@@ -68,32 +68,32 @@ pulls m (busy o n) e s v i = by (wants (parts o.targets) s) refl
 
 -- where not both name a setting
 in_turn : (d h : Bool) (x y : Option ℤ) (v : ℤ) → (is_some x && is_some y) ≡ false
-    → cond h (or_else y (cond d (or_else x v) v)) (cond d (or_else x v) v) ≡ or_else (option_map (λ t. cond d t v) x) (or_else (option_map (λ t. cond h t v) y) v)
+    → cond h (or_value y (cond d (or_value x v) v)) (cond d (or_value x v) v) ≡ or_value (option_map (λ t. cond d t v) x) (or_value (option_map (λ t. cond h t v) y) v)
 in_turn d h None None v k = grind arith
 in_turn d h (Some t) None v k = grind arith
 in_turn d h None (Some u) v k = grind arith
 in_turn d h (Some t) (Some u) v k = cc
 
 -- what an order says of a setting is its next value
-pub ordered_next : (m : Motion) (b : Slots) (e : Endings) (f : Setting → ℤ) (s : Setting) (t : ℤ) → ordered m b e (f s) s ≡ Some t → next m b e f s ≡ t
+pub ordered_next : (m : Motion) (b : Slots) (e : Endings) (f : Setting → ℤ) (s : Setting) (t : ℤ) → taken_by_orders m b e (f s) s ≡ Some t → value_after m b e f s ≡ t
 ordered_next m b e f s t h = by (pulled m b.one e.one s (f s)) (pulled m b.two e.two s (f s)) h
   where
-    by : (x y : Option ℤ) → or x y ≡ Some t → or_else x (or_else y (unnamed m (about s).axis f s)) ≡ t
+    by : (x y : Option ℤ) → or x y ≡ Some t → or_value x (or_value y (unnamed m (about s).axis f s)) ≡ t
     by None None k = cc
     by None (Some u) k = cc
     by (Some u) y k = cc
 
 -- positions moved, and then the targets of each order that is done
 pub advanced_is : (m : Motion) (b : Slots) (e : Endings) (f : Setting → ℤ) (s : Setting) → Apart b.one b.two
-    → closed b.two e.two s (closed b.one e.one s (cond (is_some (about s).axis) (next m b e f s) (f s))) ≡ next m b e f s
+    → closed b.two e.two s (closed b.one e.one s (cond (is_some (about s).axis) (value_after m b e f s) (f s))) ≡ value_after m b e f s
 advanced_is m b e f s apart = by (about s).axis refl
   where
     g : Setting → ℤ
-    g = next m b e f
+    g = value_after m b e f
 
     by : (x : Option Axis) → (about s).axis ≡ x → closed b.two e.two s (closed b.one e.one s (cond (is_some x) (g s) (f s))) ≡ g s
     by None i =
-        ap (closed b.two e.two s) (closes b.one e.one s (f s) i) ∙ closes b.two e.two s (cond (is_done e.one) (or_else (wanted b.one s) (f s)) (f s)) i
+        ap (closed b.two e.two s) (closes b.one e.one s (f s) i) ∙ closes b.two e.two s (cond (is_done e.one) (or_value (wanted b.one s) (f s)) (f s)) i
         ∙ in_turn (is_done e.one) (is_done e.two) (wanted b.one s) (wanted b.two s) (f s) (apart s)
         ∙ sym (simp (pulls m b.one e.one s (f s) i, pulls m b.two e.two s (f s) i, i))
     by (Some a) i = ap (closed b.two e.two s) (stays b.one e.one s a (g s) i) ∙ stays b.two e.two s a (g s) i
@@ -118,21 +118,21 @@ none_pulled m (Some j) e s a v h i = simp (none_wanted (parts j.order.targets) s
 
 -- where no order names a position, each goes as its drive has it
 pub drift_only : (r : Rig) (e : Endings) (f : Setting → ℤ) (s : Setting) → moving r.one ≡ false → moving r.two ≡ false
-    → unnamed r.motion (about s).axis f s ≡ cond (is_some (about s).axis) (next r.motion (slots_of r) e f s) (f s)
+    → unnamed r.motion (about s).axis f s ≡ cond (is_some (about s).axis) (value_after r.motion (slots_of r) e f s) (f s)
 drift_only r e f s h k = by (about s).axis refl
   where
-    by : (x : Option Axis) → (about s).axis ≡ x → unnamed r.motion (about s).axis f s ≡ cond (is_some (about s).axis) (next r.motion (slots_of r) e f s) (f s)
+    by : (x : Option Axis) → (about s).axis ≡ x → unnamed r.motion (about s).axis f s ≡ cond (is_some (about s).axis) (value_after r.motion (slots_of r) e f s) (f s)
     by None i = simp i
     by (Some a) i = simp (none_pulled r.motion r.one e.one s a (f s) h i, none_pulled r.motion r.two e.two s a (f s) k i, i) refl
 
 -- the last target's setting gets it first, unless it is a position
 given_push : (ts : List Target) (t : Target) (s : Setting) (v : ℤ) →
-    given (about s).axis (wants (ts ++ t ∷ []) s) v ≡ given (about s).axis (wants ts s) (cond (is_none (about t.setting).axis && same s t.setting) t.value v)
+    target_given (about s).axis (wants (ts ++ t ∷ []) s) v ≡ target_given (about s).axis (wants ts s) (cond (is_none (about t.setting).axis && same s t.setting) t.value v)
 given_push [] t s v =
     given_more t [] s v ∙ ap (cond (is_none (about t.setting).axis && same s t.setting) t.value) (by (about s).axis v)
     ∙ sym (by (about s).axis (cond (is_none (about t.setting).axis && same s t.setting) t.value v))
   where
-    by : (x : Option Axis) (w : ℤ) → given x None w ≡ w
+    by : (x : Option Axis) (w : ℤ) → target_given x None w ≡ w
     by None w = refl
     by (Some a) w = refl
 given_push (u ∷ us) t s v =
@@ -153,10 +153,10 @@ last_apart ts d l =
     sym (ap (λ (n : ℕ). take n ts) e ∙ take-length ts) ∙ take_more ts (length ts - 1) d (omega arith)
 
 pub given_last : (ts : List Target) (d : Target) (s : Setting) (v : ℤ) → 1 ≤ length ts →
-    given (about s).axis (wants ts s) v
-    ≡ given (about s).axis (wants (take (length ts - 1) ts) s) (cond (is_none (about (get_or ts (length ts - 1) d).setting).axis && same s (get_or ts (length ts - 1) d).setting) (get_or ts (length ts - 1) d).value v)
+    target_given (about s).axis (wants ts s) v
+    ≡ target_given (about s).axis (wants (take (length ts - 1) ts) s) (cond (is_none (about (get_or ts (length ts - 1) d).setting).axis && same s (get_or ts (length ts - 1) d).setting) (get_or ts (length ts - 1) d).value v)
 given_last ts d s v l =
-    ap (λ (us : List Target). given (about s).axis (wants us s) v) (last_apart ts d l) ∙ given_push (take (length ts - 1) ts) (get_or ts (length ts - 1) d) s v
+    ap (λ (us : List Target). target_given (about s).axis (wants us s) v) (last_apart ts d l) ∙ given_push (take (length ts - 1) ts) (get_or ts (length ts - 1) d) s v
 
 pub in_range_last : (ts : List Target) (d : Target) → 1 ≤ length ts → all_in_range ts ≡ true
     → (all_in_range (take (length ts - 1) ts) ≡ true) × (in_range (get_or ts (length ts - 1) d).setting (get_or ts (length ts - 1) d).value ≡ true)
@@ -169,7 +169,7 @@ abbrev one_by_one : Motion → Slots → Endings → (Setting → ℤ) → Setti
 one_by_one m b e f = followed m b e Tilt (followed m b e Pan (followed m b e Focus (followed m b e Zoom f)))
 
 -- an axis reads nothing that those before it wrote
-apart_axes : (m : Motion) (b : Slots) (e : Endings) (f : Setting → ℤ) (s : Setting) → one_by_one m b e f s ≡ positions f (next m b e f) s
+apart_axes : (m : Motion) (b : Slots) (e : Endings) (f : Setting → ℤ) (s : Setting) → one_by_one m b e f s ≡ positions f (value_after m b e f) s
 apart_axes m b e f setting.Power = refl
 apart_axes m b e f setting.Zoom = refl
 apart_axes m b e f setting.ZoomDrive = refl
@@ -200,12 +200,12 @@ followed_same m b e a f g h s =
 
 pub follows : (m : Motion) (b : Slots) (e : Endings) (f z o p t : Setting → ℤ) → ((s : Setting) → z s ≡ followed m b e Zoom f s)
     → ((s : Setting) → o s ≡ followed m b e Focus z s) → ((s : Setting) → p s ≡ followed m b e Pan o s) → ((s : Setting) → t s ≡ followed m b e Tilt p s)
-    → (s : Setting) → t s ≡ cond (is_some (about s).axis) (next m b e f s) (f s)
+    → (s : Setting) → t s ≡ cond (is_some (about s).axis) (value_after m b e f s) (f s)
 follows m b e f z o p t hz ho hp ht s =
     let io : (s : Setting) → o s ≡ followed m b e Focus (followed m b e Zoom f) s = λ s. ho s ∙ followed_same m b e Focus z (followed m b e Zoom f) hz s in
     let ip : (s : Setting) → p s ≡ followed m b e Pan (followed m b e Focus (followed m b e Zoom f)) s =
     λ s. hp s ∙ followed_same m b e Pan o (followed m b e Focus (followed m b e Zoom f)) io s in
-    ht s ∙ followed_same m b e Tilt p (followed m b e Pan (followed m b e Focus (followed m b e Zoom f))) ip s ∙ apart_axes m b e f s ∙ moves_all f (next m b e f) s
+    ht s ∙ followed_same m b e Tilt p (followed m b e Pan (followed m b e Focus (followed m b e Zoom f))) ip s ∙ apart_axes m b e f s ∙ moves_all f (value_after m b e f) s
 
 pub same_following : (r r' : Rig) (e : Endings) (a : Axis) (f : Setting → ℤ) (v : ℤ) (s : Setting) → r'.motion ≡ r.motion → r'.one ≡ r.one → r'.two ≡ r.two
     → v ≡ followed r'.motion (slots_of r') e a f s → v ≡ followed r.motion (slots_of r) e a f s

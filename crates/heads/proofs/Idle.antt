@@ -11,8 +11,8 @@ use Rattle.head.proofs.Tables.{same_is}
 use Rattle.heads.specs.declared.job.Job.{Job}
 use Rattle.heads.specs.declared.motion.Motion.{Motion}
 use Rattle.heads.specs.declared.rig.Rig.{Rig}
-use Rattle.heads.specs.Exact.{slot_of, told, unnamed, Ran}
-use Rattle.heads.specs.Rigs.{means, drifted}
+use Rattle.heads.specs.Exact.{slot_of, ending_told, unnamed, Ran}
+use Rattle.heads.specs.Rigs.{rig_meaning, drifted}
 use Rattle.heads.proofs.Lawful.{driven_lawful}
 
 -- with a drive of 0 nothing moves
@@ -47,7 +47,7 @@ idle_slot (Some j) h = cc
 
 pub idle_ran : (r r' : Rig) (p : Bool) → is_some r.one ≡ false → is_some r.two ≡ false → r'.one ≡ r.one → r'.two ≡ r.two
     → ((s : Setting) → value_of r'.settings s ≡ unnamed r.motion (about s).axis (value_of r.settings) s)
-    → Ran r.motion (means p r) (record { one = None; two = None }) (means p r')
+    → Ran r.motion (rig_meaning p r) (record { one = None; two = None }) (rig_meaning p r')
 idle_ran r r' p h k a b is =
     let one = idle_slot r.one h in
     let two = idle_slot r.two k in
@@ -55,7 +55,7 @@ idle_ran r r' p h k a b is =
       pantilt = refl;
       one = ap slot_of a ∙ one ∙ sym (ap rest one);
       two = ap slot_of b ∙ two ∙ sym (ap rest two);
-      told_one = sym (ap (λ (x : Slot). told x (value_of r'.settings)) one);
-      told_two = sym (ap (λ (x : Slot). told x (value_of r'.settings)) two);
+      told_one = sym (ap (λ (x : Slot). ending_told x (value_of r'.settings)) one);
+      told_two = sym (ap (λ (x : Slot). ending_told x (value_of r'.settings)) two);
       setting = λ s. is s ∙ sym (simp (one, two) refl);
     }

@@ -13,9 +13,9 @@ use Rattle.head.specs.Settings.{position}
 use Rattle.head.specs.Orders.{parts, wants}
 use Rattle.head.specs.Meaning.{Slot, idle, busy, put, Meaning, Timed, rest, Started, Dropped}
 use Rattle.heads.specs.Motion.{step, toward}
-use Rattle.heads.specs.Exact.{rounded_up, ticks_on, longest, is_at, there, arrived, told, Ran}
+use Rattle.heads.specs.Exact.{rounded_up, ticks_on, longest, is_at, there, arrived, ending_told, Ran}
 use Rattle.heads.specs.declared.rig.Rig.{Rig}
-use Rattle.heads.specs.Rigs.{means}
+use Rattle.heads.specs.Rigs.{rig_meaning}
 use Rattle.heads.proofs.Rigs.{job_timed}
 use Rattle.heads.specs.declared.motion.Motion.TheVariants.{Stepwise}
 use Rattle.heads.proofs.Axes.{each_of, all_of}
@@ -64,11 +64,11 @@ gets_there o n f f' a u g e = by (wants (parts o.targets) (position a)) refl
         simp (i, g a t i ∙ r) (is_at_self t)
 
 -- a tick leaves an order in time, and the last tick finds it arrived
-pub tick_punctual : (b : Slot) (f f' : Setting → ℤ) → Timed b → Moved Stepwise b f f' → punctual b f ≡ true → (punctual (rest b) f' ≡ true) × (is_jammed (told b f') ≡ false)
+pub tick_punctual : (b : Slot) (f f' : Setting → ℤ) → Timed b → Moved Stepwise b f f' → punctual b f ≡ true → (punctual (rest b) f' ≡ true) × (is_jammed (ending_told b f') ≡ false)
 tick_punctual idle f f' t g h = (refl, refl)
 tick_punctual (busy o n) f f' t g h = by (ltb 1 n) refl
   where
-    by : (late : Bool) → ltb 1 n ≡ late → (punctual (rest (busy o n)) f' ≡ true) × (is_jammed (told (busy o n) f') ≡ false)
+    by : (late : Bool) → ltb 1 n ≡ late → (punctual (rest (busy o n)) f' ≡ true) × (is_jammed (ending_told (busy o n) f') ≡ false)
     by true e = simp e (all_of (in_time o (n - 1) f') (λ a. stays_in_time o n f f' a t.0 g (each_of (in_time o n f) h a)), refl)
     by false e =
         let u : n ≡ 1 = omega (arith, t.0, ltb-false 1 n e) in
@@ -142,6 +142,6 @@ tick_keeps m m' e t₁ t₂ apart ran h =
     let two = tick_punctual m.slots.two m.setting m'.setting t₂ (moved_two Stepwise m m' e apart ran.setting) h.two in
     (record { one = rw ran.one one.0; two = rw ran.two two.0 }, (rw ran.told_one one.1, rw ran.told_two two.1))
 
-pub rig_keeps : (p : Bool) (r r' : Rig) (e : Endings) → Ran Stepwise (means p r) e (means p r') → OnTime (means p r)
-    → OnTime (means p r') × ((is_jammed e.one ≡ false) × (is_jammed e.two ≡ false))
-rig_keeps p r r' e ran h = tick_keeps (means p r) (means p r') e (job_timed r.one) (job_timed r.two) r.apart ran h
+pub rig_keeps : (p : Bool) (r r' : Rig) (e : Endings) → Ran Stepwise (rig_meaning p r) e (rig_meaning p r') → OnTime (rig_meaning p r)
+    → OnTime (rig_meaning p r') × ((is_jammed e.one ≡ false) × (is_jammed e.two ≡ false))
+rig_keeps p r r' e ran h = tick_keeps (rig_meaning p r) (rig_meaning p r') e (job_timed r.one) (job_timed r.two) r.apart ran h

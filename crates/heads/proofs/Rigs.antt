@@ -7,13 +7,13 @@ use Rattle.heads.specs.declared.job.Job.{Job}
 use Rattle.heads.specs.declared.motion.Motion.{Motion}
 use Rattle.heads.specs.declared.rig.Rig.{Rig}
 use Rattle.heads.specs.Exact.{slot_of, Ran}
-use Rattle.heads.specs.Rigs.{means}
+use Rattle.heads.specs.Rigs.{rig_meaning}
 use Rattle.heads.proofs.Lawful.{strict}
 
 pub job_timed : (j : Option Job) → Timed (slot_of j)
 job_timed None = tt
 job_timed (Some j) = (j.some, j.few)
 
-pub ticked : (motion : Motion) (p : Bool) (r r' : Rig) (e : Endings) → Ran motion (means p r) e (means p r') → Ticked (means p r) e (means p r')
+pub ticked : (motion : Motion) (p : Bool) (r r' : Rig) (e : Endings) → Ran motion (rig_meaning p r) e (rig_meaning p r') → Ticked (rig_meaning p r) e (rig_meaning p r')
 ticked motion p r r' e ran =
-    lawful (means p r) e (means p r') (strict motion (means p r) (means p r') e r.settings.ranged (job_timed r.one) (job_timed r.two) r.apart ran)
+    lawful (rig_meaning p r) e (rig_meaning p r') (strict motion (rig_meaning p r) (rig_meaning p r') e r.settings.ranged (job_timed r.one) (job_timed r.two) r.apart ran)

@@ -1,5 +1,5 @@
 -- What our heads do, exactly: the ticks that they choose, every setting after a tick, and how orders end.
-use Rattle.std.specs.Prelude.{◌≡◌, ℕ, ◌+◌, ◌/◌, ◌%◌, min, max, Bool, true, false, cond, ◌&&◌, ℤ, ◌-ℤ◌, Some, None, Option, int_le, nat_lt, unsigned_abs}
+use Rattle.std.specs.Prelude.{◌≡◌, ℕ, ◌+◌, ◌/◌, ◌%◌, min, max, Bool, true, false, if◌then◌else◌, ◌&&◌, ℤ, ◌-ℤ◌, Some, None, Option, int_le, nat_lt, unsigned_abs}
 use Rattle.head.specs.declared.order.Order.{Order}
 use Rattle.head.specs.declared.order.Paces.{Paces}
 use Rattle.head.specs.declared.outcome.Ending.{Ending}
@@ -56,9 +56,9 @@ abbrev pub arrived : Order → (Setting → ℤ) → Bool
 arrived o f = there o f Zoom && there o f Focus && there o f Pan && there o f Tilt
 
 -- an order ends at its last tick: done, or jammed if a position that it names is off its target
-abbrev pub told : Slot → (Setting → ℤ) → Option Ending
-told idle f = None
-told (busy o n) f = cond (nat_lt 1 n) None (Some (cond (arrived o f) Done Jammed))
+abbrev pub ending_told : Slot → (Setting → ℤ) → Option Ending
+ending_told idle f = None
+ending_told (busy o n) f = if nat_lt 1 n then None else Some (if arrived o f then Done else Jammed)
 
 -- Settings after a tick that tells how the orders fared, where f has the settings before.
 
@@ -70,7 +70,7 @@ is_done (Some Jammed) = false
 -- a setting with a target: a position moves, another gets its target once the order is done
 abbrev pub pulled_to : Motion → Paces → Option Axis → Option Ending → ℤ → ℤ → ℤ
 pulled_to m p (Some a) e v t = moved m p a v t
-pulled_to m p None e v t = cond (is_done e) t v
+pulled_to m p None e v t = if is_done e then t else v
 
 abbrev pulled_by : Motion → Paces → Option Axis → Option Ending → ℤ → Option ℤ → Option ℤ
 pulled_by m p a e v None = None
@@ -86,18 +86,18 @@ abbrev pub unnamed : Motion → Option Axis → (Setting → ℤ) → Setting �
 unnamed m None f s = f s
 unnamed m (Some a) f s = driven m a (f s) (f (drive a))
 
-abbrev pub or_else : Option ℤ → ℤ → ℤ
-or_else None v = v
-or_else (Some w) v = w
+abbrev pub or_value : Option ℤ → ℤ → ℤ
+or_value None v = v
+or_value (Some w) v = w
 
-abbrev pub next : Motion → Slots → Endings → (Setting → ℤ) → Setting → ℤ
-next m b e f s = or_else (pulled m b.one e.one s (f s)) (or_else (pulled m b.two e.two s (f s)) (unnamed m (about s).axis f s))
+abbrev pub value_after : Motion → Slots → Endings → (Setting → ℤ) → Setting → ℤ
+value_after m b e f s = or_value (pulled m b.one e.one s (f s)) (or_value (pulled m b.two e.two s (f s)) (unnamed m (about s).axis f s))
 
 -- a tick of our heads: nothing is left to choose
 pub record Ran (motion : Motion) (m : Meaning) (e : Endings) (m' : Meaning) : Type 0 where
   pub pantilt : m'.pantilt ≡ m.pantilt
   pub one : m'.slots.one ≡ rest m.slots.one
   pub two : m'.slots.two ≡ rest m.slots.two
-  pub told_one : e.one ≡ told m.slots.one m'.setting
-  pub told_two : e.two ≡ told m.slots.two m'.setting
-  pub setting : (s : Setting) → m'.setting s ≡ next motion m.slots e m.setting s
+  pub told_one : e.one ≡ ending_told m.slots.one m'.setting
+  pub told_two : e.two ≡ ending_told m.slots.two m'.setting
+  pub setting : (s : Setting) → m'.setting s ≡ value_after motion m.slots e m.setting s

@@ -38,14 +38,14 @@ moved Stepwise p a v t = toward (step p a) v t
 moved Stalled p a v t = v
 
 -- w, or the end of the range that it has passed
-abbrev pub held : Range → ℤ → ℤ
-held Switch w = w
-held WhiteBalance w = w
-held Exposure w = w
-held (Span low high) w = int_min (int_max w low) high
+abbrev pub held_to_range : Range → ℤ → ℤ
+held_to_range Switch w = w
+held_to_range WhiteBalance w = w
+held_to_range Exposure w = w
+held_to_range (Span low high) w = int_min (int_max w low) high
 
 -- where a tick takes a position that no order names from v, if its drive is d
 abbrev pub driven : Motion → Axis → ℤ → ℤ → ℤ
-driven AtOnce a v d = held (about (position a)).range (v +ℤ pos (unit a) *ℤ d)
-driven Stepwise a v d = held (about (position a)).range (v +ℤ pos (unit a) *ℤ d)
+driven AtOnce a v d = held_to_range (about (position a)).range (v +ℤ pos (unit a) *ℤ d)
+driven Stepwise a v d = held_to_range (about (position a)).range (v +ℤ pos (unit a) *ℤ d)
 driven Stalled a v d = v

@@ -1,5 +1,5 @@
 -- A rig as what a head means, and what its code finds before it moves anything.
-use Rattle.std.specs.Prelude.{Bool, true, cond, ◌&&◌, ℤ, Some, None, Option, nat_lt}
+use Rattle.std.specs.Prelude.{Bool, true, if◌then◌else◌, ◌&&◌, ℤ, Some, None, Option, nat_lt}
 use Rattle.head.specs.declared.order.Order.{Order}
 use Rattle.head.specs.declared.outcome.Ending.{Ending}
 use Rattle.head.specs.declared.outcome.Endings.{Endings}
@@ -14,13 +14,13 @@ use Rattle.head.specs.Values.{value_of}
 use Rattle.heads.specs.declared.motion.Motion.{Motion}
 use Rattle.heads.specs.declared.rig.Rig.{Rig}
 use Rattle.heads.specs.Motion.{moved, driven}
-use Rattle.heads.specs.Exact.{slot_of, is_at, is_done, or_else, pulled, next}
+use Rattle.heads.specs.Exact.{slot_of, is_at, is_done, or_value, pulled, value_after}
 
 abbrev pub slots_of : Rig → Slots
 slots_of r = record { one = slot_of r.one; two = slot_of r.two }
 
-abbrev pub means : Bool → Rig → Meaning
-means pantilt r = record { setting = value_of r.settings; pantilt = pantilt; slots = slots_of r }
+abbrev pub rig_meaning : Bool → Rig → Meaning
+rig_meaning pantilt r = record { setting = value_of r.settings; pantilt = pantilt; slots = slots_of r }
 
 -- whether this tick takes a position to its target, where g moves it toward one
 abbrev pub reaches : (ℤ → ℤ) → Option ℤ → Bool
@@ -36,30 +36,30 @@ all_arrive m o f = arrives m o f Zoom && arrives m o f Focus && arrives m o f Pa
 -- how a slot's order will end at this tick, where f has the settings before it
 abbrev pub foretold : Motion → Slot → (Setting → ℤ) → Option Ending
 foretold m idle f = None
-foretold m (busy o n) f = cond (nat_lt 1 n) None (Some (cond (all_arrive m o f) Done Jammed))
+foretold m (busy o n) f = if nat_lt 1 n then None else Some (if all_arrive m o f then Done else Jammed)
 
 -- a setting with its target, if it has one, at its place; a position moves, and is nowhere put
-abbrev pub given : Option Axis → Option ℤ → ℤ → ℤ
-given (Some a) w v = v
-given None w v = or_else w v
+abbrev pub target_given : Option Axis → Option ℤ → ℤ → ℤ
+target_given (Some a) w v = v
+target_given None w v = or_value w v
 
 -- a setting from v, where a slot's order that is done gives settings their targets
 abbrev pub closed : Slot → Option Ending → Setting → ℤ → ℤ
 closed idle e s v = v
-closed (busy o n) e s v = cond (is_done e) (given (about s).axis (wants (parts o.targets) s) v) v
+closed (busy o n) e s v = if is_done e then target_given (about s).axis (wants (parts o.targets) s) v else v
 
 -- settings that have the values f, where the drive of an axis moves its position
 abbrev pub drifted : Motion → Axis → (Setting → ℤ) → Setting → ℤ
-drifted m a f s = cond (same s (position a)) (driven m a (f (position a)) (f (drive a))) (f s)
+drifted m a f s = if same s (position a) then driven m a (f (position a)) (f (drive a)) else f s
 
 abbrev pub or : Option ℤ → Option ℤ → Option ℤ
 or None y = y
 or (Some t) y = Some t
 
 -- where an order takes a setting from v, if one names it
-abbrev pub ordered : Motion → Slots → Endings → ℤ → Setting → Option ℤ
-ordered m b e v s = or (pulled m b.one e.one s v) (pulled m b.two e.two s v)
+abbrev pub taken_by_orders : Motion → Slots → Endings → ℤ → Setting → Option ℤ
+taken_by_orders m b e v s = or (pulled m b.one e.one s v) (pulled m b.two e.two s v)
 
 -- settings that have the values f, where the position of an axis goes as an order has it, or as its drive
 abbrev pub followed : Motion → Slots → Endings → Axis → (Setting → ℤ) → Setting → ℤ
-followed m b e a f s = cond (same s (position a)) (next m b e f (position a)) (f s)
+followed m b e a f s = if same s (position a) then value_after m b e f (position a) else f s

@@ -1,7 +1,7 @@
 //! How our heads move a position: toward the target of an order, or as its drive says.
 
 ghost use Rattle.std.specs.Prelude.{◌≡◌, ◌≤◌};
-ghost use Rattle.heads.specs.Motion.{unit as unit_of, pace as pace_of, step as step_of, toward as toward_by, held as held_to};
+ghost use Rattle.heads.specs.Motion.{unit as unit_of, pace as pace_of, step as step_of, toward as toward_by, held_to_range as held_to};
 
 use head::{Axis, Paces, Range};
 

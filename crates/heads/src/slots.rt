@@ -4,9 +4,9 @@ ghost use Rattle.std.specs.Prelude.{◌≡◌, Bool};
 ghost use Rattle.head.specs.declared.setting.Setting.{Setting as S};
 ghost use Rattle.head.specs.Settings.{about, looked};
 ghost use Rattle.head.specs.Values.{value_of};
-ghost use Rattle.head.specs.Meaning.{at as slot_at, left_of, put, idle, busy, answered, refusal, Started, Dropped};
+ghost use Rattle.head.specs.Meaning.{at as slot_at, left_of, put, idle, busy, reason_given, refusal, Started, Dropped};
 ghost use Rattle.heads.specs.Exact.{ticks_of};
-ghost use Rattle.heads.specs.Rigs.{means, slots_of};
+ghost use Rattle.heads.specs.Rigs.{rig_meaning, slots_of};
 
 use crate::job::Job;
 use crate::motion::Motion;
@@ -52,7 +52,7 @@ impl Rig {
     // Turns an order down with the first reason against it.
     #[inline(always)]
     fn admit(&self, pan_tilt: bool, slot: u8, order: &Order) -> Result<(), Refusal>
-        ensures { answered result ≡ refusal (means pan_tilt self.now) slot order.now }
+        ensures { reason_given result ≡ refusal (rig_meaning pan_tilt self.now) slot order.now }
     {
         let one = self.one.as_ref().map(|job| &job.order);
         let two = self.two.as_ref().map(|job| &job.order);
@@ -62,8 +62,8 @@ impl Rig {
     /// Starts an order in a slot, or turns it down.
     #[inline(always)]
     pub(crate) fn start(&mut self, pan_tilt: bool, slot: u8, order: &Order) -> Result<(), Refusal>
-        ensures started { Started (means pan_tilt self.old) slot order.now (answered result) (means pan_tilt self.new) }
-        ensures ticks { answered result ≡ 0 → slots_of self.new ≡ put (slots_of self.old) slot (busy order.now (ticks_of self.old.motion (value_of self.old.settings) order.now)) }
+        ensures started { Started (rig_meaning pan_tilt self.old) slot order.now (reason_given result) (rig_meaning pan_tilt self.new) }
+        ensures ticks { reason_given result ≡ 0 → slots_of self.new ≡ put (slots_of self.old) slot (busy order.now (ticks_of self.old.motion (value_of self.old.settings) order.now)) }
         ensures motion { self.new.motion ≡ self.old.motion }
     {
         self.admit(pan_tilt, slot, order)?;
@@ -84,7 +84,7 @@ impl Rig {
 
     /// Makes a slot idle.
     pub(crate) fn drop_slot(&mut self, slot: u8)
-        ensures dropped { (p : Bool) → Dropped (means p self.old) slot (means p self.new) }
+        ensures dropped { (p : Bool) → Dropped (rig_meaning p self.old) slot (rig_meaning p self.new) }
         ensures motion { self.new.motion ≡ self.old.motion }
     {
         match slot {

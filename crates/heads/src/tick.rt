@@ -8,8 +8,8 @@ ghost use Rattle.head.specs.Meaning.{rest};
 ghost use Rattle.head.specs.Orders.{parts, wants, all_in_range};
 ghost use Rattle.head.specs.Settings.{about, position, same};
 ghost use Rattle.head.specs.Values.{value_of};
-ghost use Rattle.heads.specs.Exact.{slot_of, pulled as pulled_by, next as next_by, unnamed, Ran};
-ghost use Rattle.heads.specs.Rigs.{means, slots_of, foretold, given, closed, drifted, ordered as ordered_by, followed as followed_by};
+ghost use Rattle.heads.specs.Exact.{slot_of, pulled as pulled_by, value_after as next_by, unnamed, Ran};
+ghost use Rattle.heads.specs.Rigs.{rig_meaning, slots_of, foretold, target_given, closed, drifted, taken_by_orders as ordered_by, followed as followed_by};
 
 use crate::job::Job;
 use crate::motion::Motion;
@@ -21,7 +21,7 @@ use head::{Admitted, Axis, Ending, Endings, Setting, Settings, Target};
 // that of two for a setting the first stays.
 fn give(settings: &mut Settings, targets: &[Target])
     requires { all_in_range targets.now ≡ true }
-    ensures { (s : S) → value_of settings.new s ≡ given (about s).axis (wants targets.now s) (value_of settings.old s) }
+    ensures { (s : S) → value_of settings.new s ≡ target_given (about s).axis (wants targets.now s) (value_of settings.old s) }
 {
     let mut left = targets;
     while let [rest @ .., last] = left {
@@ -180,7 +180,7 @@ impl Rig {
     // A tick with an order at work in a slot, or in both.
     #[inline(never)]
     fn work(&mut self) -> Endings
-        ensures ran { (p : Bool) → Ran self.old.motion (means p self.old) result (means p self.new) }
+        ensures ran { (p : Bool) → Ran self.old.motion (rig_meaning p self.old) result (rig_meaning p self.new) }
         ensures motion { self.new.motion ≡ self.old.motion }
     {
         let one = self.ending(&self.one);
@@ -195,7 +195,7 @@ impl Rig {
     /// One tick: both orders go on, those with their last tick end, and settings follow.
     #[inline(always)]
     pub(crate) fn tick(&mut self) -> Endings
-        ensures ran { (p : Bool) → Ran self.old.motion (means p self.old) result (means p self.new) }
+        ensures ran { (p : Bool) → Ran self.old.motion (rig_meaning p self.old) result (rig_meaning p self.new) }
         ensures motion { self.new.motion ≡ self.old.motion }
     {
         if self.one.is_some() || self.two.is_some() {

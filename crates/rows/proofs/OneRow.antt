@@ -8,16 +8,16 @@ use Rattle.head.specs.declared.setting.Setting.{Setting}
 use Rattle.head.proofs.Options.{no_some}
 use Rattle.head.proofs.Tables.{all_below, each_below}
 use Rattle.rows.specs.declared.command.Command.{Command}
-use Rattle.rows.specs.declared.fault.RowFault.{RowFault}
+use Rattle.rows.specs.declared.faults.RowFault.{RowFault}
 use Rattle.rows.specs.declared.operands.Operands.{Operands}
 use Rattle.rows.specs.declared.table.TableRow.{TableRow}
 use Rattle.rows.specs.Codes.{pairs, coded, setting_of}
-use Rattle.rows.specs.Commands.{commands, ordered, read_command}
+use Rattle.rows.specs.Commands.{commands, with_order, read_command}
 use Rattle.rows.specs.OneRow.{row_at, admitted_by, ByOneRow}
 use Rattle.rows.specs.Orders.{order_of}
-use Rattle.rows.specs.Reading.{count, reads}
+use Rattle.rows.specs.Reading.{operand_count, reads}
 use Rattle.rows.specs.Rows.{row_has, row_reads}
-use Rattle.rows.specs.Search.{meaning, first_or, first_of}
+use Rattle.rows.specs.Search.{row_meaning, first_or, first_of}
 use Rattle.rows.proofs.Somes.{when_some, bound}
 
 -- What a row that admits a command has of it.
@@ -25,14 +25,14 @@ use Rattle.rows.proofs.Somes.{when_some, bound}
 record Has (r : TableRow Operands) (k c : ℕ) (os : List ℕ) : Type 0 where
   category : k ≡ r.category
   code : is_some (coded (pairs r.codes) c) ≡ true
-  operands : length os ≡ count r.form
+  operands : length os ≡ operand_count r.form
 
-has : (r : TableRow Operands) (k c : ℕ) (os : List ℕ) (m : Command) → meaning row_has (row_reads reads) k c os r ≡ Some m → Has r k c os
+has : (r : TableRow Operands) (k c : ℕ) (os : List ℕ) (m : Command) → row_meaning row_has (row_reads reads) k c os r ≡ Some m → Has r k c os
 has r k c os o e =
     let (h, m) = when_some (row_has r k c) (row_reads reads r c os) e in
     let (x, y) = and_parts (eqb k r.category) (is_some (setting_of r.codes c)) h in
     let (s, t, u) = bound (setting_of r.codes c) (λ s. reads r.form s os) m in
-    record { category = eqb-true k r.category x; code = y; operands = eqb-true (length os) (count r.form) (when_some _ _ u).0 }
+    record { category = eqb-true k r.category x; code = y; operands = eqb-true (length os) (operand_count r.form) (when_some _ _ u).0 }
 
 -- Two rows that may admit one command are alike, and no two of the table are.
 
@@ -49,15 +49,15 @@ both_common (p ∷ ps) qs c h g =
     (cases_Bool (eqb c p.0))
 
 alike : TableRow Operands → TableRow Operands → Bool
-alike r q = eqb r.category q.category && common (pairs r.codes) (pairs q.codes) && eqb (count r.form) (count q.form)
+alike r q = eqb r.category q.category && common (pairs r.codes) (pairs q.codes) && eqb (operand_count r.form) (operand_count q.form)
 
 alike_both : (r q : TableRow Operands) (k c : ℕ) (os : List ℕ) → Has r k c os → Has q k c os → alike r q ≡ true
 unfolding alike
 alike_both r q k c os h g =
-    and_from (eqb r.category q.category && common (pairs r.codes) (pairs q.codes)) (eqb (count r.form) (count q.form))
+    and_from (eqb r.category q.category && common (pairs r.codes) (pairs q.codes)) (eqb (operand_count r.form) (operand_count q.form))
     (and_from (eqb r.category q.category) (common (pairs r.codes) (pairs q.codes))
     (eq-eqb r.category q.category (sym h.category ∙ g.category)) (both_common (pairs r.codes) (pairs q.codes) c h.code g.code))
-    (eq-eqb (count r.form) (count q.form) (sym h.operands ∙ g.operands))
+    (eq-eqb (operand_count r.form) (operand_count q.form) (sym h.operands ∙ g.operands))
 
 told_apart : ℕ → ℕ → Bool
 told_apart i j = eqb i j || not (alike (row_at i) (row_at j))
@@ -85,8 +85,8 @@ one_row i j [] o p q e f = no_some e
 one_row i j (k ∷ []) o p q e f = no_some e
 one_row i j (k ∷ c ∷ os) o p q e f =
     let (o', f') = some_is (admitted_by j (k ∷ c ∷ os)) f in
-    let (n, g) = mapped order_of (meaning row_has (row_reads reads) k c os (row_at j)) f' in
-    let (m, h) = mapped order_of (meaning row_has (row_reads reads) k c os (row_at i)) e in
+    let (n, g) = mapped order_of (row_meaning row_has (row_reads reads) k c os (row_at j)) f' in
+    let (m, h) = mapped order_of (row_meaning row_has (row_reads reads) k c os (row_at i)) e in
     let a = alike_both (row_at j) (row_at i) k c os (has (row_at j) k c os n g) (has (row_at i) k c os m h) in
     apart_is j i a (each_below (told_apart j) 12 (each_below (λ x. all_below (told_apart x) 12) 12 tests j q) i p)
 
@@ -114,8 +114,8 @@ module _ {X M : Type 0} (f : X → Option M) (d : X) where
   first_is (x ∷ xs) = one_more x xs (f x) (first_of f xs) refl (first_is xs)
 
 by_one_row : (k c : ℕ) (os : List ℕ) (r : Option (ℕ × Command)) (e : RowFault)
-    → MatchOption r (Nowhere (meaning row_has (row_reads reads) k c os) (row_at 12) commands) (Here (meaning row_has (row_reads reads) k c os) (row_at 12) commands)
-    → ByOneRow (k ∷ c ∷ os) (ordered (ok_or r e))
+    → MatchOption r (Nowhere (row_meaning row_has (row_reads reads) k c os) (row_at 12) commands) (Here (row_meaning row_has (row_reads reads) k c os) (row_at 12) commands)
+    → ByOneRow (k ∷ c ∷ os) (with_order (ok_or r e))
 by_one_row k c os None e h = λ j l. ap (option_map order_of) (h j l)
 by_one_row k c os (Some p) e h =
     let o : admitted_by p.0 (k ∷ c ∷ os) ≡ Some (order_of p.1) = ap (option_map order_of) h.1 in
@@ -126,7 +126,7 @@ pub read_by_one_row : (body : List ℕ) → ByOneRow body (read_command body)
 unfolding read_command
 read_by_one_row [] = λ j h. refl
 read_by_one_row (k ∷ []) = λ j h. refl
-read_by_one_row (k ∷ c ∷ os) = by_one_row k c os _ _ (first_is (meaning row_has (row_reads reads) k c os) (row_at 12) commands)
+read_by_one_row (k ∷ c ∷ os) = by_one_row k c os _ _ (first_is (row_meaning row_has (row_reads reads) k c os) (row_at 12) commands)
 
 pub as_read : (body : List ℕ) (r : Result (ℕ × Order) RowFault) → r ≡ read_command body → ByOneRow body r
 as_read body r e = subst (ByOneRow body) (sym e) (read_by_one_row body)

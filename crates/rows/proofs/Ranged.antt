@@ -8,9 +8,9 @@ use Rattle.head.specs.declared.order.Paces.{Paces}
 use Rattle.head.specs.declared.setting.Setting.{Setting}
 use Rattle.head.specs.Orders.{parts, all_in_range}
 use Rattle.rows.specs.declared.command.Command.{Command}
-use Rattle.rows.specs.declared.fault.PacketFault.{PacketFault}
-use Rattle.rows.specs.declared.fault.PacketFault.TheVariants.{UnknownBody}
-use Rattle.rows.specs.declared.fault.RowFault.{RowFault}
+use Rattle.rows.specs.declared.faults.PacketFault.{PacketFault}
+use Rattle.rows.specs.declared.faults.PacketFault.TheVariants.{UnknownBody}
+use Rattle.rows.specs.declared.faults.RowFault.{RowFault}
 use Rattle.rows.specs.declared.inquiries.Inquiry.{Inquiry}
 use Rattle.rows.specs.declared.operands.Operands.{Operands}
 use Rattle.rows.specs.declared.operands.Operands.TheVariants.{Digit, Drive, Position, PositionAtSpeed, Level, Number, PanTiltDrive, PanTilt, Home}
@@ -20,14 +20,15 @@ use Rattle.rows.specs.declared.request.Request.TheVariants as request
 use Rattle.rows.specs.declared.table.TableRow.{TableRow}
 use Rattle.rows.specs.Codes.{setting_of}
 use Rattle.rows.specs.Commands.{read_command}
-use Rattle.rows.specs.Digits.{word}
+use Rattle.rows.specs.Digits.{from_digits}
 use Rattle.rows.specs.Inquiries.{read_inquiry}
 use Rattle.rows.specs.OneRow.{row_at, admitted_by, ReadByOne}
 use Rattle.rows.specs.Orders.{order_of}
-use Rattle.rows.specs.Reading.{bind, ranged, turning, steered, pan_tilt_driven, pan_tilt_placed, four, count, means, reads}
+use Rattle.std.specs.Option.{option_and_then}
+use Rattle.rows.specs.Reading.{ranged, turning, steered, pan_tilt_driven, pan_tilt_placed, four, operand_count, operands_mean, reads}
 use Rattle.rows.specs.Requests.{as_command, as_inquiry, read_body}
 use Rattle.rows.specs.Rows.{row_has, row_reads}
-use Rattle.rows.specs.Search.{meaning}
+use Rattle.rows.specs.Search.{row_meaning}
 use Rattle.rows.proofs.OneRow.{read_by_one_row}
 
 abbrev OrderInRange : Order → Type 0
@@ -42,7 +43,7 @@ unfolding InRange
 cond_in_range true x h = h
 cond_in_range false x h = tt
 
-bind_in_range : {A : Type 0} (x : Option A) (f : A → Option Command) → ((a : A) → InRange (f a)) → InRange (bind x f)
+bind_in_range : {A : Type 0} (x : Option A) (f : A → Option Command) → ((a : A) → InRange (f a)) → InRange (option_and_then f x)
 unfolding InRange
 bind_in_range None f h = tt
 bind_in_range (Some a) f h = h a
@@ -55,9 +56,9 @@ driven_in_range : (p : Paces) (d e : ℕ) → InRange (pan_tilt_driven p d e)
 driven_in_range p d e = bind_in_range (steered Up d p.pan) _ (λ x. bind_in_range (steered Down e p.tilt) _ (λ y. ranged_in_range _))
 
 placed_in_range : (p : Paces) (xs ys : List ℕ) → InRange (pan_tilt_placed p xs ys)
-placed_in_range p xs ys = bind_in_range (word xs) _ (λ x. bind_in_range (word ys) _ (λ y. ranged_in_range _))
+placed_in_range p xs ys = bind_in_range (from_digits xs) _ (λ x. bind_in_range (from_digits ys) _ (λ y. ranged_in_range _))
 
-means_in_range : (f : Operands) (s : Setting) (os : List ℕ) → InRange (means f s os)
+means_in_range : (f : Operands) (s : Setting) (os : List ℕ) → InRange (operands_mean f s os)
 means_in_range Digit s os = cond_in_range _ _ (ranged_in_range _)
 means_in_range (Drive e) s os = bind_in_range _ _ (λ d. ranged_in_range _)
 means_in_range (Position a lens) s os = bind_in_range _ _ (λ n. ranged_in_range _)
@@ -69,9 +70,9 @@ means_in_range PanTilt s os = bind_in_range (turning (slice_index os 0) (slice_i
 means_in_range Home s os = ranged_in_range _
 
 reads_in_range : (f : Operands) (s : Setting) (os : List ℕ) → InRange (reads f s os)
-reads_in_range f s os = cond_in_range (eqb (length os) (count f)) (means f s os) (means_in_range f s os)
+reads_in_range f s os = cond_in_range (eqb (length os) (operand_count f)) (operands_mean f s os) (means_in_range f s os)
 
-row_in_range : (r : TableRow Operands) (k c : ℕ) (os : List ℕ) → InRange (meaning row_has (row_reads reads) k c os r)
+row_in_range : (r : TableRow Operands) (k c : ℕ) (os : List ℕ) → InRange (row_meaning row_has (row_reads reads) k c os r)
 row_in_range r k c os = cond_in_range (row_has r k c) _ (bind_in_range (setting_of r.codes c) _ (λ s. reads_in_range r.form s os))
 
 order_in_range : (x : Option Command) → InRange x → IfSome (option_map order_of x) OrderInRange

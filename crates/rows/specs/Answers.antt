@@ -1,5 +1,5 @@
 -- The answers to inquiries, where f has the values that are looked at.
-use Rattle.std.specs.Prelude.{ℕ, ◌/◌, ◌%◌, Bool, cond, List, [], ◌∷◌, ◌++◌, length, ℤ, Some, None, Option, nat_le}
+use Rattle.std.specs.Prelude.{ℕ, ◌/◌, ◌%◌, Bool, if◌then◌else◌, List, [], ◌∷◌, ◌++◌, length, ℤ, Some, None, Option, nat_le}
 use Rattle.head.specs.declared.setting.Setting.{Setting}
 use Rattle.head.specs.declared.setting.Setting.TheVariants.{Pan, Tilt}
 use Rattle.head.specs.declared.traits.Look.{Ghosts}
@@ -13,23 +13,23 @@ abbrev pub looked_digits : (Setting → ℤ) → Setting → List ℕ
 looked_digits f s = digits (bits (f s))
 
 -- what stands behind the header: the value, or error 41 where pan and tilt are asked for and there are none
-abbrev pub told : Form → (Setting → ℤ) → Setting → Bool → List ℕ
-told Digit f s pantilt = 0x50 ∷ bits (f s) % 16 ∷ []
-told Level f s pantilt = 0x50 ∷ 0 ∷ 0 ∷ bits (f s) / 16 % 16 ∷ bits (f s) % 16 ∷ []
-told Number f s pantilt = 0x50 ∷ looked_digits f s
-told PanTilt f s pantilt = cond pantilt (0x50 ∷ (looked_digits f Pan ++ looked_digits f Tilt)) (0x60 ∷ 0x41 ∷ [])
+abbrev pub answer_body : Form → (Setting → ℤ) → Setting → Bool → List ℕ
+answer_body Digit f s pantilt = 0x50 ∷ bits (f s) % 16 ∷ []
+answer_body Level f s pantilt = 0x50 ∷ 0 ∷ 0 ∷ bits (f s) / 16 % 16 ∷ bits (f s) % 16 ∷ []
+answer_body Number f s pantilt = 0x50 ∷ looked_digits f s
+answer_body PanTilt f s pantilt = if pantilt then 0x50 ∷ (looked_digits f Pan ++ looked_digits f Tilt) else 0x60 ∷ 0x41 ∷ []
 
 -- the packet: header, answer, FF
-abbrev pub answered : ℕ → Inquiry → (Setting → ℤ) → Bool → List ℕ
-answered header q f pantilt = header ∷ (told q.form f q.setting pantilt ++ 0xff ∷ [])
+abbrev pub answer_packet : ℕ → Inquiry → (Setting → ℤ) → Bool → List ℕ
+answer_packet header q f pantilt = header ∷ (answer_body q.form f q.setting pantilt ++ 0xff ∷ [])
 
 -- the packet that answers for what can be looked at
-abbrev pub answer_of : {L : Type 0} → Ghosts L → L → ℕ → Inquiry → List ℕ
-answer_of look x header q = answered header q (look.setting x) (look.pantilt x)
+abbrev pub answer_looked : {L : Type 0} → Ghosts L → L → ℕ → Inquiry → List ℕ
+answer_looked look x header q = answer_packet header q (look.setting x) (look.pantilt x)
 
 -- bytes put at the front of a buffer, if it has room for them
 abbrev pub count_of : List ℕ → List ℕ → Option ℕ
-count_of bytes out = cond (nat_le (length bytes) (length out)) (Some (length bytes)) None
+count_of bytes out = if nat_le (length bytes) (length out) then Some (length bytes) else None
 
 abbrev pub sent : List ℕ → List ℕ → List ℕ
-sent bytes out = cond (nat_le (length bytes) (length out)) (over bytes out) out
+sent bytes out = if nat_le (length bytes) (length out) then over bytes out else out

@@ -5,7 +5,7 @@ use Rattle.head.specs.declared.setting.Axis.TheVariants as axis
 use Rattle.head.specs.declared.setting.Setting.TheVariants.{Power, ZoomDrive, FocusDrive, Zoom, Focus, Identity, PanDrive, Pan}
 use Rattle.rows.specs.declared.codes.Codes.TheVariants.{One, Modes, Levels}
 use Rattle.rows.specs.declared.command.Command.{Command}
-use Rattle.rows.specs.declared.fault.RowFault.{RowFault}
+use Rattle.rows.specs.declared.faults.RowFault.{RowFault}
 use Rattle.rows.specs.declared.operands.Operands.{Operands}
 use Rattle.rows.specs.declared.operands.Operands.TheVariants.{Digit, Drive, Position, PositionAtSpeed, Level, Number, PanTiltDrive, PanTilt, Home}
 use Rattle.rows.specs.declared.operands.Sense.TheVariants.{Up, Down}
@@ -32,10 +32,10 @@ commands =
     ∷ []
 
 -- with the order that a command is
-abbrev pub ordered : Result (ℕ × Command) RowFault → Result (ℕ × Order) RowFault
-ordered (Ok p) = Ok (p.0, order_of p.1)
-ordered (Err e) = Err e
+abbrev pub with_order : Result (ℕ × Command) RowFault → Result (ℕ × Order) RowFault
+with_order (Ok p) = Ok (p.0, order_of p.1)
+with_order (Err e) = Err e
 
 -- what a command is read as, behind its first byte; shut, since the table is long
 unfoldable pub read_command : List ℕ → Result (ℕ × Order) RowFault
-read_command body = ordered (found row_has (row_reads reads) commands body)
+read_command body = with_order (found row_has (row_reads reads) commands body)

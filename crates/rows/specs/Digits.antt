@@ -1,15 +1,15 @@
 -- Numbers as packets have them: digits of four bits, one to a byte, highest first.
-use Rattle.std.specs.Prelude.{ℕ, ◌+◌, ◌-◌, ◌*◌, ◌/◌, ◌%◌, cond, ◌&&◌, List, [], ◌∷◌, ℤ, pos, negsuc, Some, None, Option, nat_lt, slice_index}
+use Rattle.std.specs.Prelude.{ℕ, ◌+◌, ◌-◌, ◌*◌, ◌/◌, ◌%◌, if◌then◌else◌, ◌&&◌, List, [], ◌∷◌, ℤ, pos, negsuc, Some, None, Option, nat_lt, slice_index}
 
 -- the number of four digits
-abbrev pub word : List ℕ → Option ℕ
-word ds =
+abbrev pub from_digits : List ℕ → Option ℕ
+from_digits ds =
     let p = slice_index ds 0 in let q = slice_index ds 1 in let r = slice_index ds 2 in let s = slice_index ds 3 in
-    cond (nat_lt p 16 && nat_lt q 16 && nat_lt r 16 && nat_lt s 16) (Some (p * 4096 + q * 256 + r * 16 + s)) None
+    if nat_lt p 16 && nat_lt q 16 && nat_lt r 16 && nat_lt s 16 then Some (p * 4096 + q * 256 + r * 16 + s) else None
 
 -- sixteen bits in two's complement, and back
 abbrev pub signed : ℕ → ℤ
-signed n = cond (nat_lt n 0x8000) (pos n) (negsuc (0xffff - n))
+signed n = if nat_lt n 0x8000 then pos n else negsuc (0xffff - n)
 
 abbrev pub bits : ℤ → ℕ
 bits (pos n) = n

@@ -1,9 +1,9 @@
 -- The inquiry rows, and what an inquiry is read as.
-use Rattle.std.specs.Prelude.{ℕ, cond, List, [], ◌∷◌, length, Some, None, Option, Result, ◌==◌}
+use Rattle.std.specs.Prelude.{ℕ, if◌then◌else◌, List, [], ◌∷◌, length, Some, None, Option, Result, ◌==◌}
 use Rattle.head.specs.declared.setting.Setting.{Setting}
 use Rattle.head.specs.declared.setting.Setting.TheVariants.{Power, Zoom, Focus, Identity, Pan}
 use Rattle.rows.specs.declared.codes.Codes.TheVariants.{One, Modes, Levels}
-use Rattle.rows.specs.declared.fault.RowFault.{RowFault}
+use Rattle.rows.specs.declared.faults.RowFault.{RowFault}
 use Rattle.rows.specs.declared.inquiries.Form.{Form}
 use Rattle.rows.specs.declared.inquiries.Form.TheVariants.{Digit, Level, Number, PanTilt}
 use Rattle.rows.specs.declared.inquiries.Inquiry.{Inquiry}
@@ -15,8 +15,8 @@ abbrev pub asks : Setting → Form → Inquiry
 asks s f = record { setting = s; form = f }
 
 -- an inquiry has no operands
-abbrev pub asked : Form → Setting → List ℕ → Option Inquiry
-asked f s os = cond (length os == 0) (Some (asks s f)) None
+abbrev pub inquiry_asked : Form → Setting → List ℕ → Option Inquiry
+inquiry_asked f s os = if length os == 0 then Some (asks s f) else None
 
 abbrev pub inquiries : List (TableRow Form)
 inquiries =
@@ -31,4 +31,4 @@ inquiries =
 
 -- what an inquiry is read as, behind its first byte; shut, since the table is long
 unfoldable pub read_inquiry : List ℕ → Result (ℕ × Inquiry) RowFault
-read_inquiry body = found row_has (row_reads asked) inquiries body
+read_inquiry body = found row_has (row_reads inquiry_asked) inquiries body

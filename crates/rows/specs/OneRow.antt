@@ -4,7 +4,7 @@ use Rattle.std.specs.Option.{option_map}
 use Rattle.head.specs.declared.order.Order.{Order}
 use Rattle.head.specs.declared.setting.Setting.TheVariants.{Pan}
 use Rattle.rows.specs.declared.codes.Codes.TheVariants.{One}
-use Rattle.rows.specs.declared.fault.RowFault.{RowFault}
+use Rattle.rows.specs.declared.faults.RowFault.{RowFault}
 use Rattle.rows.specs.declared.operands.Operands.{Operands}
 use Rattle.rows.specs.declared.operands.Operands.TheVariants.{Home}
 use Rattle.rows.specs.declared.table.TableRow.{TableRow}
@@ -12,7 +12,7 @@ use Rattle.rows.specs.Commands.{commands}
 use Rattle.rows.specs.Orders.{order_of}
 use Rattle.rows.specs.Reading.{reads}
 use Rattle.rows.specs.Rows.{row_has, row_reads}
-use Rattle.rows.specs.Search.{meaning}
+use Rattle.rows.specs.Search.{row_meaning}
 
 -- the command row at a place, from 0; past the last, the last
 abbrev pub row_at : ℕ → TableRow Operands
@@ -22,7 +22,7 @@ row_at i = slice_index_or commands i (record { category = 0x06; codes = One 0x04
 abbrev pub admitted_by : ℕ → List ℕ → Option Order
 admitted_by i [] = None
 admitted_by i (k ∷ []) = None
-admitted_by i (k ∷ c ∷ os) = option_map order_of (meaning row_has (row_reads reads) k c os (row_at i))
+admitted_by i (k ∷ c ∷ os) = option_map order_of (row_meaning row_has (row_reads reads) k c os (row_at i))
 
 -- the row at place i admits the command as order o, and no other row admits it
 pub record ReadByOne (body : List ℕ) (i : ℕ) (o : Order) : Type 0 where

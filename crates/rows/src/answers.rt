@@ -1,7 +1,7 @@
 //! Inquiries answered, from whatever can be looked at.
 
 ghost use Rattle.std.specs.Prelude.{◌≡◌};
-ghost use Rattle.rows.specs.Answers.{looked_digits, answer_of, sent as sent_into, count_of};
+ghost use Rattle.rows.specs.Answers.{looked_digits, answer_looked, sent as sent_into, count_of};
 ghost use Rattle.rows.specs.Inquiries.{asks};
 ghost use Rattle.head.specs.declared.setting.Setting.TheVariants.{Pan};
 ghost use Rattle.rows.specs.declared.inquiries.Form.TheVariants.{PanTilt};
@@ -21,8 +21,8 @@ fn shown<L: Look>(from: &L, setting: Setting) -> [u8; 4]
 // Pan and tilt in eight digits, or error 41 without them.
 #[inline(always)]
 fn answer_pan_tilt<L: Look>(from: &L, header: u8, out: &mut [u8]) -> Option<usize>
-    ensures count { result ≡ count_of (answer_of L.Look from.now header (asks Pan PanTilt)) out.old }
-    ensures sent { out.new ≡ sent_into (answer_of L.Look from.now header (asks Pan PanTilt)) out.old }
+    ensures count { result ≡ count_of (answer_looked L.Look from.now header (asks Pan PanTilt)) out.old }
+    ensures sent { out.new ≡ sent_into (answer_looked L.Look from.now header (asks Pan PanTilt)) out.old }
 {
     if !from.has_pan_tilt() {
         return send_at(out, 0, &[header, 0x60, 0x41, 0xff]);
@@ -36,8 +36,8 @@ fn answer_pan_tilt<L: Look>(from: &L, header: u8, out: &mut [u8]) -> Option<usiz
 /// the count; a buffer that is too short for it is left as it is.
 #[inline(always)]
 pub fn answer<L: Look>(from: &L, inquiry: Inquiry, header: u8, out: &mut [u8]) -> Option<usize>
-    ensures count { result ≡ count_of (answer_of L.Look from.now header inquiry) out.old }
-    ensures sent { out.new ≡ sent_into (answer_of L.Look from.now header inquiry) out.old }
+    ensures count { result ≡ count_of (answer_looked L.Look from.now header inquiry) out.old }
+    ensures sent { out.new ≡ sent_into (answer_looked L.Look from.now header inquiry) out.old }
 {
     let [p, q, r, s] = shown(from, inquiry.setting);
     match inquiry.form {

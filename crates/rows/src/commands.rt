@@ -1,12 +1,12 @@
 //! The command rows: what packets make the head do.
 
 ghost use Rattle.std.specs.Prelude.{◌≡◌};
-ghost use Rattle.rows.specs.Commands.{ordered, read_command as command_read};
+ghost use Rattle.rows.specs.Commands.{with_order, read_command as command_read};
 ghost use Rattle.rows.specs.OneRow.{ByOneRow};
 
 use crate::codes::Codes::{Levels, Modes, One};
 use crate::command::Command;
-use crate::fault::RowFault;
+use crate::faults::RowFault;
 use crate::find::find_row;
 use crate::operands::Operands::{
     Digit, Drive, Home, Level, Number, PanTilt, PanTiltDrive, Position, PositionAtSpeed,
@@ -52,7 +52,7 @@ pub const COMMANDS: [CommandRow; 12] = [
 #[tactic(auto, unfolding(crate::specs::Commands::read_command))]
 #[inline(always)]
 pub fn find_command(body: &[u8]) -> Result<(usize, Command), RowFault>
-    ensures { ordered result ≡ command_read body.now }
+    ensures { with_order result ≡ command_read body.now }
 {
     find_row(&COMMANDS, body)
 }

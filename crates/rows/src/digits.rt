@@ -2,7 +2,7 @@
 
 ghost use Rattle.std.specs.Prelude.{◌≡◌};
 ghost use Rattle.head.specs.Settings.{Small};
-ghost use Rattle.rows.specs.Digits.{word as word_of, signed as signed_of, bits as bits_of, digits as digits_of};
+ghost use Rattle.rows.specs.Digits.{from_digits as word_of, signed as signed_of, bits as bits_of, digits as digits_of};
 
 /// The number of four digits; none if a byte is no digit.
 pub(crate) fn word(digits: [u8; 4]) -> Option<u16>

@@ -6,7 +6,7 @@ ghost use Rattle.std.specs.Option.{ok_or};
 ghost use Rattle.rows.specs.Search.{first_of, fault_of, found};
 ghost use Rattle.rows.specs.Admitted.{covers, admits};
 
-use crate::fault::RowFault;
+use crate::faults::RowFault;
 use crate::row::{Body, Row};
 
 // Whether some row has a body's category and code.

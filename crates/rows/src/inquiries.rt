@@ -1,10 +1,10 @@
 //! The inquiry rows: what packets ask of whatever can be looked at.
 
 ghost use Rattle.std.specs.Prelude.{◌≡◌};
-ghost use Rattle.rows.specs.Inquiries.{asked, read_inquiry as inquiry_read};
+ghost use Rattle.rows.specs.Inquiries.{inquiry_asked, read_inquiry as inquiry_read};
 
 use crate::codes::Codes::{Levels, Modes, One};
-use crate::fault::RowFault;
+use crate::faults::RowFault;
 use crate::find::find_row;
 use crate::operands::OperandForm;
 use crate::table::{TableRow, row};
@@ -35,7 +35,7 @@ pub struct Inquiry {
 impl OperandForm for Form {
     type Meaning = Inquiry;
 
-    ghost makes = { asked };
+    ghost makes = { inquiry_asked };
 
     fn read(&self, setting: Setting, operands: &[u8]) -> Option<Inquiry> {
         operands.is_empty().then_some(Inquiry {

@@ -1,7 +1,7 @@
 //! Operands to what they say. Every byte counts, and every target must be in range.
 
 ghost use Rattle.std.specs.Prelude.{◌≡◌, pos};
-ghost use Rattle.rows.specs.Reading.{ranged as ranged_by, alone as alone_by, digit as digit_by, pushed as pushed_by, turned as turned_by, driven as driven_by, placed as placed_by, placed_at as placed_at_by, level as level_by, number as number_by, turning as turning_by, steered as steered_by, pan_tilt_driven as pan_tilt_driven_by, pan_tilt as pan_tilt_by, pan_tilt_placed as pan_tilt_placed_by, home as home_by, reads};
+ghost use Rattle.rows.specs.Reading.{ranged as ranged_by, alone as alone_by, digit as digit_by, pushed as pushed_by, turned as turned_by, lens_driven as driven_by, placed as placed_by, placed_at as placed_at_by, level as level_by, four_digits as number_by, turning as turning_by, steered as steered_by, pan_tilt_driven as pan_tilt_driven_by, pan_tilt as pan_tilt_by, pan_tilt_placed as pan_tilt_placed_by, home as home_by, reads};
 
 use crate::command::{Command, PanTilt, Place, STILL};
 use crate::digits::{signed, word};

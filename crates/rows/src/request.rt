@@ -1,17 +1,17 @@
 //! The packet layer: what a body asks for.
 
 ghost use Rattle.std.specs.Prelude.{◌≡◌};
-ghost use Rattle.rows.specs.declared.fault.PacketFault.TheVariants.{Row as RowF};
+ghost use Rattle.rows.specs.declared.faults.PacketFault.TheVariants.{Row as RowF};
 ghost use Rattle.rows.specs.Commands.{read_command as command_read};
 ghost use Rattle.rows.specs.Inquiries.{read_inquiry as inquiry_read};
-ghost use Rattle.rows.specs.Requests.{as_command, as_inquiry, read_body, code_of as packet_code};
-ghost use Rattle.rows.specs.Search.{code_of as row_code};
+ghost use Rattle.rows.specs.Requests.{as_command, as_inquiry, read_body, packet_code};
+ghost use Rattle.rows.specs.Search.{row_code};
 
 use crate::commands::read_command;
-use crate::fault::{PacketFault, RowFault};
+use crate::faults::{PacketFault, RowFault};
 use crate::inquiries::{Inquiry, read_inquiry};
+use fault::{FaultCode, Layer};
 use head::Order;
-use wire::{FaultCode, Layer};
 
 /// The first byte of a command's body.
 pub const COMMAND: u8 = 0x01;

@@ -1,6 +1,6 @@
 //! Faults of a body in words.
 
-use crate::fault::{PacketFault, RowFault};
+use crate::faults::{PacketFault, RowFault};
 use std::error::Error;
 use std::fmt;
 

@@ -1,27 +1,22 @@
 -- What the modes forbid. A row goes by the number n of the setting that its order names first, and that setting's target t.
-use Rattle.std.specs.Prelude.{ℕ, Bool, false, cond, not, ◌&&◌, ◌||◌, ℤ, pos, negsuc, Some, None, Option, ◌==◌, nat_le}
+use Rattle.std.specs.Prelude.{ℕ, Bool, false, if◌then◌else◌, not, ◌&&◌, ◌||◌, ℤ, Some, None, Option, ◌==◌, nat_le}
 use Rattle.head.specs.declared.order.Order.{Order}
 use Rattle.head.specs.declared.setting.Setting.{Setting}
 use Rattle.head.specs.declared.setting.Setting.TheVariants.{Power, FocusMode, WhiteBalance, ExposureMode, Freeze}
 use Rattle.head.specs.Orders.{parts, leading, wants, any_pan_tilt}
-use Rattle.head.specs.Settings.{number}
+use Rattle.head.specs.Settings.{number, has_value}
 use Rattle.rules.specs.declared.modes.Modes.{Modes}
 
 abbrev pub modes_of : (Setting → ℤ) → Modes
 modes_of f = record { power = f Power; focus = f FocusMode; white_balance = f WhiteBalance; exposure = f ExposureMode; freeze = f Freeze }
 
--- the value v is n
-abbrev pub is : ℤ → ℕ → Bool
-is (pos m) n = m == n
-is (negsuc m) n = false
-
 -- with power off, all but the power row
 abbrev pub off : Modes → ℕ → Bool
-off m n = is m.power 3 && not (n == 0)
+off m n = has_value m.power 3 && not (n == 0)
 
 -- with freeze on, the rows of settings 6 to 13 and 16
 abbrev pub frozen : Modes → ℕ → Bool
-frozen m n = is m.freeze 2 && ((nat_le 6 n && nat_le n 13) || n == 16)
+frozen m n = has_value m.freeze 2 && ((nat_le 6 n && nat_le n 13) || n == 16)
 
 abbrev pub shuts : Modes → ℕ → Bool
 shuts m n = off m n || frozen m n
@@ -30,21 +25,14 @@ shuts m n = off m n || frozen m n
 -- shutter needs manual or shutter mode, iris manual or iris mode, gain manual mode, bright bright mode
 abbrev pub lacks : Modes → ℕ → ℤ → Bool
 lacks m n t =
-    cond (n == 4 || n == 5) (not (is m.focus 3))
-    (cond (n == 7 || n == 8) (not (is m.white_balance 5))
-    (cond (n == 9) (is t 13 && (is m.exposure 3 || is m.exposure 11))
-    (cond (n == 10) (not (is m.exposure 3 || is m.exposure 10))
-    (cond (n == 11) (not (is m.exposure 3 || is m.exposure 11))
-    (cond (n == 12) (not (is m.exposure 3))
-    (cond (n == 13) (not (is m.exposure 13))
-    false))))))
+    if n == 4 || n == 5 then not (has_value m.focus 3) else (if n == 7 || n == 8 then not (has_value m.white_balance 5) else (if n == 9 then has_value t 13 && (has_value m.exposure 3 || has_value m.exposure 11) else (if n == 10 then not (has_value m.exposure 3 || has_value m.exposure 10) else (if n == 11 then not (has_value m.exposure 3 || has_value m.exposure 11) else (if n == 12 then not (has_value m.exposure 3) else (if n == 13 then not (has_value m.exposure 13) else false))))))
 
 abbrev pub forbids : Modes → ℕ → ℤ → Bool
 forbids m n t = shuts m n || lacks m n t
 
 abbrev is_on : Option ℤ → Bool
 is_on None = false
-is_on (Some v) = is v 2
+is_on (Some v) = has_value v 2
 
 -- an order that names power with target 2
 abbrev pub powers_on : Order → Bool

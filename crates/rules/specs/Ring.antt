@@ -1,5 +1,5 @@
 -- The rules of the ring: what becomes of a whole packet at an end with address a, 0 for none yet.
-use Rattle.std.specs.Prelude.{ℕ, suc, ◌+◌, ◌-◌, ◌/◌, ◌%◌, ◌≤◌, Bool, true, cond, not, ◌&&◌, ◌||◌, List, [], ◌∷◌, length, Some, None, Option, ◌==◌, nat_le, slice_index, slice_index_or}
+use Rattle.std.specs.Prelude.{ℕ, suc, ◌+◌, ◌-◌, ◌/◌, ◌%◌, ◌≤◌, Bool, true, if◌then◌else◌, not, ◌&&◌, ◌||◌, List, [], ◌∷◌, length, Some, None, Option, ◌==◌, nat_le, slice_index, slice_index_or}
 use Rattle.rules.specs.declared.ring.Rule.{Rule}
 use Rattle.rules.specs.declared.ring.Rule.TheVariants.{TakenOff, AddressSet, ClearedForAll, SentOn, Cleared, Cancelled, Requested}
 use Rattle.wire.specs.Packets.{body_of}
@@ -24,7 +24,7 @@ sender p = header p / 16 % 8
 abbrev pub address_set : List ℕ → Option ℕ
 address_set p =
     let w = slice_index_or p 2 0 in
-    cond (are p (0x88 ∷ 0x30 ∷ w ∷ 0xff ∷ []) && nat_le 1 w && nat_le w 7) (Some w) None
+    if are p (0x88 ∷ 0x30 ∷ w ∷ 0xff ∷ []) && nat_le 1 w && nat_le w 7 then Some w else None
 
 abbrev pub clears_all : List ℕ → Bool
 clears_all p = are p (0x88 ∷ 0x01 ∷ 0x00 ∷ 0x01 ∷ 0xff ∷ [])
@@ -33,22 +33,17 @@ clears_all p = are p (0x88 ∷ 0x01 ∷ 0x00 ∷ 0x01 ∷ 0xff ∷ [])
 abbrev pub for_this_end : List ℕ → Rule
 for_this_end body =
     let y = slice_index_or body 0 0 in
-    cond (are body (0x01 ∷ 0x00 ∷ 0x01 ∷ [])) Cleared
-    (cond (are body (y ∷ []) && nat_le 0x20 y && nat_le y 0x2f) (Cancelled (y - 0x20))
-    Requested)
+    if are body (0x01 ∷ 0x00 ∷ 0x01 ∷ []) then Cleared else (if are body (y ∷ []) && nat_le 0x20 y && nat_le y 0x2f then Cancelled (y - 0x20) else Requested)
 
-abbrev pub or_else : Option ℕ → Rule → Rule
-or_else (Some w) r = AddressSet w
-or_else None r = r
+abbrev pub else_rule : Option ℕ → Rule → Rule
+else_rule (Some w) r = AddressSet w
+else_rule None r = r
 
 -- the first rule that fits
 abbrev pub rule_of : ℕ → List ℕ → Rule
 rule_of a p =
-    cond (not (a == 0) && sender p == a) TakenOff
-    (or_else (address_set p)
-    (cond (clears_all p) ClearedForAll
-    (cond (a == 0 || not (header p == 0x80 + a)) SentOn
-    (for_this_end (body_of p)))))
+    if not (a == 0) && sender p == a then TakenOff else else_rule (address_set p)
+    (if clears_all p then ClearedForAll else (if a == 0 || not (header p == 0x80 + a) then SentOn else for_this_end (body_of p)))
 
 -- an address that is set is 1 to 7, and a socket that is cancelled 0 to 15
 abbrev pub Bounded : Rule → Type 0

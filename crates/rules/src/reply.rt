@@ -1,7 +1,7 @@
 //! What an end says of itself, as packets: a header, one or two bytes, and FF.
 
 ghost use Rattle.std.specs.Prelude.{◌≡◌, ◌≤◌, length, if◌then◌else◌, Some, None, nat_le};
-ghost use Rattle.rules.specs.Replies.{code_of, packet};
+ghost use Rattle.rules.specs.Replies.{problem_code, packet};
 ghost use Rattle.wire.specs.Line.{over_at};
 
 use wire::{Bytes, send_at};
@@ -35,7 +35,7 @@ pub enum Reply {
 impl Problem {
     /// The code on the line.
     pub fn code(self) -> u8
-        ensures { result ≡ code_of self }
+        ensures { result ≡ problem_code self }
     {
         self as u8
     }

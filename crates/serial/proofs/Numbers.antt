@@ -5,7 +5,7 @@ use Rattle.std.specs.Result.{OkIff, result_ok}
 use Rattle.std.specs.Str.{bytes_eq}
 use Rattle.std.specs.Str.Parse.{AllDigits, IsNumeral, ParsesUnsigned, digits_value, without_leading_plus}
 use Rattle.std.specs.Cmp.Lexicographic.{same_text}
-use Rattle.serial.specs.Words.{all_digits, number}
+use Rattle.serial.specs.Words.{all_digits, decimal}
 
 -- texts that differ are told apart
 pub different : (xs ys : List ℕ) → (xs ≡ ys → ⊥) → bytes_eq xs ys ≡ false
@@ -36,7 +36,7 @@ parts_of w e =
     let q = and_parts _ _ p.0 in
     ((ltb-true _ _ q.0, digits w q.1), ltb-true _ _ p.1)
 
-read : {E : Type 0} (w : List ℕ) (r : Result ℕ E) → Reads r w → result_ok r ≡ number w
+read : {E : Type 0} (w : List ℕ) (r : Result ℕ E) → Reads r w → result_ok r ≡ decimal w
 read w (Ok n) p = ap Some p.1 ∙ sym (cond-true (written w) _ _ (all_of w p.0))
 read w (Err e) p = sym (cond-false (written w) _ _ (false_from_ne_true (written w) (λ t. p (parts_of w t))))
 
@@ -44,5 +44,5 @@ no_plus : (w : List ℕ) → eqb (get_or w 0 0) 43 ≡ false → without_leading
 no_plus w e = rw e refl
 
 -- a word with no plus in front
-pub parsed : {E : Type 0} (w : List ℕ) (r : Result ℕ E) → eqb (get_or w 0 0) 43 ≡ false → ParsesUnsigned 32 10 w r → result_ok r ≡ number w
+pub parsed : {E : Type 0} (w : List ℕ) (r : Result ℕ E) → eqb (get_or w 0 0) 43 ≡ false → ParsesUnsigned 32 10 w r → result_ok r ≡ decimal w
 parsed w r plain p = read w r (subst (λ (ds : List ℕ). Reads r ds) (no_plus w plain) p)

@@ -14,7 +14,7 @@ use Rattle.end.specs.States.{State, InRange}
 use Rattle.end.specs.Steps.{Step}
 use Rattle.end.proofs.Runs.{sockets_agree_in_every_run}
 use Rattle.head.specs.Meaning.{Meaning}
-use Rattle.serial.specs.Turns.{After, none, then, LawfulBehind, Answered, Failed, Served, Stopped, Turn, Box, Told, bytes_of, ticks_after, silence_after, calls_over, calls_in}
+use Rattle.serial.specs.Turns.{After, none, then, LawfulBehind, Answered, Failed, Served, Stopped, Turn, Box, HearingsTold, bytes_read, ticks_after, silence_after, calls_over, calls_in}
 use Rattle.serial.specs.declared.silence.Hearing.{Hearing}
 use Rattle.serial.specs.declared.silence.Hearing.TheVariants.{On}
 use Rattle.serial.specs.declared.silence.Silence.{Silence}
@@ -169,9 +169,9 @@ consumes_kept (Some xs) None c first p q = absurd p
 consumes_kept (Some xs) (Some ys) None first p q = absurd q
 consumes_kept (Some xs) (Some ys) (Some zs) first p q = p ∙ ap (λ (l : List ℕ). first ++ l) (sym q)
 
-bytes_of_more : (xs : List Turn) (x : Turn) → bytes_of (xs ++ x ∷ []) ≡ bytes_of xs ++ x.bytes
+bytes_of_more : (xs : List Turn) (x : Turn) → bytes_read (xs ++ x ∷ []) ≡ bytes_read xs ++ x.bytes
 bytes_of_more [] x = append-nil x.bytes
-bytes_of_more (y ∷ xs) x = ap (λ (l : List ℕ). y.bytes ++ l) (bytes_of_more xs x) ∙ sym (append_assoc y.bytes (bytes_of xs) x.bytes)
+bytes_of_more (y ∷ xs) x = ap (λ (l : List ℕ). y.bytes ++ l) (bytes_of_more xs x) ∙ sym (append_assoc y.bytes (bytes_read xs) x.bytes)
 
 ticks_after_more : (t : Ticks) (xs : List Turn) (x : Turn) → ticks_after t (xs ++ x ∷ []) ≡ paid_at (ticks_after t xs) x.now
 ticks_after_more t [] x = refl
@@ -187,8 +187,8 @@ silence_after_more : (k : Silence) (xs : List Turn) (x : Turn) → silence_after
 silence_after_more k [] x = refl
 silence_after_more k (y ∷ xs) x = silence_after_more (heard k (length y.bytes) y.now) xs x
 
-told_more : (q : Option ℕ) (k : Silence) (xs : List Turn) (x : Turn) {h : Hearing} → Told q k xs On →
-    h ≡ hearing (silence_after k xs) (length x.bytes) x.now q → Told q k (xs ++ x ∷ []) h
+told_more : (q : Option ℕ) (k : Silence) (xs : List Turn) (x : Turn) {h : Hearing} → HearingsTold q k xs On →
+    h ≡ hearing (silence_after k xs) (length x.bytes) x.now q → HearingsTold q k (xs ++ x ∷ []) h
 told_more q k [] x p e = e
 told_more q k (y ∷ []) x p e = (p, e)
 told_more q k (y ∷ z ∷ xs) x p e = (p.0, told_more q (heard k (length y.bytes) y.now) (z ∷ xs) x p.1 e)

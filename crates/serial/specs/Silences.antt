@@ -1,5 +1,6 @@
 -- Quiet reads: what is counted, and what it tells of the line.
-use Rattle.std.specs.Prelude.{ℕ, ◌+◌, ◌-◌, ◌%◌, ◌^◌, Bool, false, cond, ◌&&◌, min, Some, None, Option, ◌==◌, nat_le, nat_lt}
+use Rattle.std.specs.Prelude.{ℕ, ◌+◌, ◌-◌, ◌%◌, ◌^◌, Bool, false, if◌then◌else◌, ◌&&◌, min, Some, None, Option, ◌==◌, nat_le, nat_lt, [], ◌∷◌}
+use Rattle.head.specs.Cases.{first_case}
 use Rattle.serial.specs.declared.silence.Hearing.{Hearing}
 use Rattle.serial.specs.declared.silence.Hearing.TheVariants.{On, Quiet, Gone}
 use Rattle.serial.specs.declared.silence.Silence.{Silence}
@@ -15,8 +16,8 @@ whole s = more s % 100 == 0
 -- after a read of so many bytes
 abbrev pub heard : Silence → ℕ → ℕ → Silence
 heard s count now = record {
-  reads = cond (count == 0) (more s) 0;
-  since = cond (count == 0) (cond (whole s) now s.since) now;
+  reads = if count == 0 then more s else 0;
+  since = if count == 0 then (if whole s then now else s.since) else now;
 }
 
 -- as many quiet reads as the program was told to wait for
@@ -26,7 +27,9 @@ enough (Some most) n = nat_le most n
 
 abbrev pub hearing : Silence → ℕ → ℕ → Option ℕ → Hearing
 hearing s count now quiet =
-    cond (nat_lt 0 count) On
-    (cond (whole s && nat_lt (now - s.since) 1000) Gone
-    (cond (enough quiet (more s)) Quiet
-    On))
+    first_case (
+      (nat_lt 0 count, On)
+      ∷ (whole s && nat_lt (now - s.since) 1000, Gone)
+      ∷ (enough quiet (more s), Quiet)
+      ∷ []
+    ) On

@@ -1,5 +1,5 @@
 -- What a clock owes at a time: `due` is all of it, and no more than 50 is owed: a second, at the usual length.
-use Rattle.std.specs.Prelude.{ℕ, ◌+◌, ◌-◌, ◌*◌, ◌/◌, cond, ◌||◌, min, nat_lt}
+use Rattle.std.specs.Prelude.{ℕ, ◌+◌, ◌-◌, ◌*◌, ◌/◌, if◌then◌else◌, ◌||◌, min, nat_lt}
 use Rattle.serial.specs.declared.ticks.Ticks.{Ticks}
 
 -- whole ticks since the last that was paid; none where the clock went back
@@ -13,5 +13,5 @@ owed t now = min (due t now) 50
 abbrev pub paid_at : Ticks → ℕ → Ticks
 paid_at t now = record {
   length = t.length;
-  paid = cond (nat_lt now t.paid || nat_lt 50 (due t now)) now (t.paid + due t now * t.length);
+  paid = if nat_lt now t.paid || nat_lt 50 (due t now) then now else t.paid + due t now * t.length;
 }

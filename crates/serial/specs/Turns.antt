@@ -60,9 +60,9 @@ pub record Turn : Type 0 where
   pub bytes : List ℕ
   pub now : ℕ
 
-abbrev pub bytes_of : List Turn → List ℕ
-bytes_of [] = []
-bytes_of (x ∷ xs) = x.bytes ++ bytes_of xs
+abbrev pub bytes_read : List Turn → List ℕ
+bytes_read [] = []
+bytes_read (x ∷ xs) = x.bytes ++ bytes_read xs
 
 -- a box: its end, the ticks paid, the silence of the line, and after how many quiet reads it is quiet
 pub record Box : Type 0 where
@@ -88,10 +88,10 @@ silence_after k [] = k
 silence_after k (x ∷ xs) = silence_after (heard k (length x.bytes) x.now) xs
 
 -- the line went on after each turn but the last, and that one told h
-abbrev pub Told : Option ℕ → Silence → List Turn → Hearing → Type 0
-Told q k [] h = h ≡ On
-Told q k (x ∷ []) h = h ≡ hearing k (length x.bytes) x.now q
-Told q k (x ∷ y ∷ xs) h = (On ≡ hearing k (length x.bytes) x.now q) × Told q (heard k (length x.bytes) x.now) (y ∷ xs) h
+abbrev pub HearingsTold : Option ℕ → Silence → List Turn → Hearing → Type 0
+HearingsTold q k [] h = h ≡ On
+HearingsTold q k (x ∷ []) h = h ≡ hearing k (length x.bytes) x.now q
+HearingsTold q k (x ∷ y ∷ xs) h = (On ≡ hearing k (length x.bytes) x.now q) × HearingsTold q (heard k (length x.bytes) x.now) (y ∷ xs) h
 
 -- These turns were made, and no other call, and the last told h. Their bytes are those that were read, and all that was sent was written,
 -- both in order: `input` was still to be read and then `input'`, the line held `old` and then holds `new`, where that is known.
@@ -102,10 +102,10 @@ pub record Served (b b' : Box) (h : Hearing) (input input' old new : Option (Lis
   pub ticks : b'.ticks ≡ ticks_after b.ticks turns
   pub silence : b'.silence ≡ silence_after b.silence turns
   pub quiet : b'.quiet ≡ b.quiet
-  pub told : Told b.quiet b.silence turns h
+  pub told : HearingsTold b.quiet b.silence turns h
   pub made : After b.end entries b'.end
   pub law : LawfulBehind b.end entries b'.end
-  pub heard : Consumes input input' (bytes_of turns)
+  pub heard : Consumes input input' (bytes_read turns)
   pub written : Appends old new (sent_by entries)
 
 -- calls were made in turn, and then something failed

@@ -1,7 +1,7 @@
 //! The words with which the program is called: `HEAD [TICK_MS [QUIET]]`.
 
 ghost use Rattle.std.specs.Prelude.{◌≡◌, map};
-ghost use Rattle.serial.specs.Words.{arguments, head_named, length_of, reads_of, number};
+ghost use Rattle.serial.specs.Words.{arguments, head_named, length_of, reads_of, decimal};
 
 use crate::ticks::TickLength;
 use std::error::Error;
@@ -50,7 +50,7 @@ impl Error for ArgumentsError {}
 
 // A decimal number of digits alone, if it fits 32 bits.
 fn number_of(word: &str) -> Option<u32>
-    ensures { result ≡ number word.now }
+    ensures { result ≡ decimal word.now }
 {
     if word.starts_with('+') {
         return None;

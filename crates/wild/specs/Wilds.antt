@@ -13,8 +13,8 @@ use Rattle.wild.specs.Works.{slot_of}
 abbrev pub slots_of : Wild → Slots
 slots_of h = record { one = slot_of h.one; two = slot_of h.two }
 
-abbrev pub means : Wild → Meaning
-means h = record { setting = value_of h.settings; pantilt = h.pan_tilt; slots = slots_of h }
+abbrev pub wild_meaning : Wild → Meaning
+wild_meaning h = record { setting = value_of h.settings; pantilt = h.pan_tilt; slots = slots_of h }
 
 -- where an order that fared as e takes a setting from v: nowhere if it wants nothing of it, and else where every head's may
 abbrev pub Leads : Option ℤ → Option Axis → Option Ending → ℤ → Option ℤ → Type 0

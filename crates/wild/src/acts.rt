@@ -4,8 +4,8 @@ ghost use Rattle.std.specs.Prelude.{◌≡◌};
 ghost use Rattle.head.specs.declared.setting.Setting.{Setting as S};
 ghost use Rattle.head.specs.Settings.{about};
 ghost use Rattle.head.specs.Values.{value_of};
-ghost use Rattle.head.specs.Meaning.{idle, answered, refusal};
-ghost use Rattle.wild.specs.Wilds.{slots_of, means};
+ghost use Rattle.head.specs.Meaning.{idle, reason_given, refusal, Started, Ticked, Dropped};
+ghost use Rattle.wild.specs.Wilds.{slots_of, wild_meaning};
 ghost use Rattle.std.proofs.Common.{rules};
 
 use crate::dice::Dice;
@@ -32,7 +32,7 @@ impl Wild {
 
     // Turns an order down with the first reason against it.
     fn admit(&self, slot: u8, order: &Order) -> Result<(), Refusal>
-        ensures { answered result ≡ refusal (means self.now) slot order.now }
+        ensures { reason_given result ≡ refusal (wild_meaning self.now) slot order.now }
     {
         let one = self.one.as_ref().map(|work| &work.order);
         let two = self.two.as_ref().map(|work| &work.order);
@@ -60,6 +60,18 @@ impl Look for Wild {
 
 impl Head for Wild {
     ghost slots = { slots_of };
+
+    ghost started = { λ x y o r z. Started (wild_meaning x) y o (reason_given r) (wild_meaning z) };
+
+    ghost ticked = { λ x e z. Ticked (wild_meaning x) e (wild_meaning z) };
+
+    ghost dropped = { λ x y z. Dropped (wild_meaning x) y (wild_meaning z) };
+
+    ghost start_means = { λ x y o r z h. h };
+
+    ghost tick_means = { λ x e z h. h };
+
+    ghost drop_means = { λ x y z h. h };
 
     ghost timed = { Prim.search rules };
 

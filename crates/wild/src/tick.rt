@@ -6,7 +6,7 @@ ghost use Rattle.head.specs.Settings.{about, in_range, position, drive};
 ghost use Rattle.head.specs.Meaning.{busy, wanted, rest, SlotTicked, Driven, Ticked};
 ghost use Rattle.head.specs.Values.{value_of};
 ghost use Rattle.wild.specs.Works.{slot_of};
-ghost use Rattle.wild.specs.Wilds.{means, Leads, Alone, Goes};
+ghost use Rattle.wild.specs.Wilds.{wild_meaning, Leads, Alone, Goes};
 
 use crate::dice::Dice;
 use crate::wild::Wild;
@@ -107,7 +107,7 @@ impl Wild {
 
     // The value of a setting after this tick.
     fn step(&self, endings: Endings, setting: Setting, dice: &mut Dice) -> i32
-        ensures { Goes (means self.now) endings setting result }
+        ensures { Goes (wild_meaning self.now) endings setting result }
     {
         let one = self.led(self.one, endings.one, setting, dice);
         let two = self.led(self.two, endings.two, setting, dice);
@@ -117,7 +117,7 @@ impl Wild {
 
     // All settings after this tick.
     fn advanced(&self, endings: Endings, dice: &mut Dice) -> Settings
-        ensures { (s : S) → Goes (means self.now) endings s (value_of result s) }
+        ensures { (s : S) → Goes (wild_meaning self.now) endings s (value_of result s) }
     {
         let mut settings = self.settings;
         for setting in Setting::ALL {
@@ -129,7 +129,7 @@ impl Wild {
 
     /// One tick: both orders go on, those with their last tick end, and settings follow.
     pub(crate) fn go_on(&mut self) -> Endings
-        ensures { Ticked (means self.old) result (means self.new) }
+        ensures { Ticked (wild_meaning self.old) result (wild_meaning self.new) }
     {
         let mut dice = self.dice;
         let one = ending(self.one, &mut dice);

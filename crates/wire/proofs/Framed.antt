@@ -1,7 +1,7 @@
 -- Every packet is framed, and every FF finds the line again.
 use Rattle.std.proofs.Common.{◌≡◌, ℕ, ◌+◌, ◌≤◌, true, List, [], ◌∷◌, ◌++◌, length, refl, append_assoc, arith, length-append}
 use Rattle.std.proofs.lemmas.Grind.{common_steps}
-use Rattle.wire.specs.Framing.{Held, none, begun, skipping, next}
+use Rattle.wire.specs.Framing.{Held, none, begun, skipping, held_after}
 use Rattle.wire.specs.Packets.{closes}
 use Rattle.wire.proofs.Forms.{packet_some}
 use Rattle.wire.specs.Theorems.{after, events, at_last, EveryPacketIsFramed, TheLineIsFoundAgain}
@@ -31,11 +31,11 @@ every_packet_is_framed (b ∷ d ∷ bs) h =
     let r = rests (b ∷ []) (d ∷ bs) c (omega arith) (omega arith) m in
     record { left = grind (arith, common_steps, r.left); told = grind (arith, common_steps, r.told) }
 
-ended : (h : Held) → next h 0xff ≡ none
+ended : (h : Held) → held_after h 0xff ≡ none
 ended none = refl
 ended (begun bs) = refl
 ended skipping = refl
 
 pub the_line_is_found_again : TheLineIsFoundAgain
 the_line_is_found_again h [] = ended h
-the_line_is_found_again h (b ∷ bs) = the_line_is_found_again (next h b) bs
+the_line_is_found_again h (b ∷ bs) = the_line_is_found_again (held_after h b) bs

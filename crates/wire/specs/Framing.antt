@@ -1,8 +1,8 @@
 -- Framing: what each byte makes of what stands before it.
-use Rattle.std.specs.Prelude.{ℕ, cond, List, [], ◌∷◌, ◌++◌, length, Some, None, Ok, Err, Option, Result, ◌==◌}
-use Rattle.wire.specs.declared.fault.FaultCode.{FaultCode}
-use Rattle.wire.specs.declared.fault.Layer.{Layer}
-use Rattle.wire.specs.declared.fault.Layer.TheVariants as layer
+use Rattle.std.specs.Prelude.{ℕ, if◌then◌else◌, List, [], ◌∷◌, ◌++◌, length, Some, None, Ok, Err, Option, Result, ◌==◌}
+use Rattle.fault.specs.Faults.{fault_code}
+use Rattle.fault.specs.declared.code.FaultCode.{FaultCode}
+use Rattle.fault.specs.declared.code.Layer.TheVariants.{Framing}
 use Rattle.wire.specs.declared.framer.FramingFault.{FramingFault}
 use Rattle.wire.specs.declared.framer.FramingFault.TheVariants.{NoHeader, NoBody, Overlong}
 use Rattle.wire.specs.declared.packet.Packet.{Packet}
@@ -15,45 +15,33 @@ pub data Held : Type 0 where
   skipping : Held
 
 -- what a byte makes of it
-abbrev pub next : Held → ℕ → Held
-next none b = cond (is_header b) (begun (b ∷ [])) none
-next (begun bs) b = cond (b == 0xff) none (cond (length bs == 15) skipping (begun (bs ++ b ∷ [])))
-next skipping b = cond (b == 0xff) none skipping
+abbrev pub held_after : Held → ℕ → Held
+held_after none b = if is_header b then begun (b ∷ []) else none
+held_after (begun bs) b = if b == 0xff then none else (if length bs == 15 then skipping else begun (bs ++ b ∷ []))
+held_after skipping b = if b == 0xff then none else skipping
 
 -- what a byte tells: nothing, a whole packet, or a fault
 abbrev pub Event : Type 0
 Event = Result (Option (List ℕ)) FramingFault
 
 abbrev pub event : Held → ℕ → Event
-event none b = cond (is_header b) (Ok None) (Err NoHeader)
+event none b = if is_header b then Ok None else Err NoHeader
 event (begun bs) b =
-    cond (b == 0xff)
-    (cond (length bs == 1) (Err NoBody) (Ok (Some (bs ++ b ∷ []))))
-    (cond (length bs == 15) (Err Overlong) (Ok None))
+    if b == 0xff then (if length bs == 1 then Err NoBody else Ok (Some (bs ++ b ∷ []))) else (if length bs == 15 then Err Overlong else Ok None)
 event skipping b = Ok None
 
--- the layers by number
-abbrev pub number_of : Layer → ℕ
-number_of layer.Call = 0
-number_of layer.Framing = 1
-number_of layer.Packet = 2
-number_of layer.Row = 3
-
 -- each fault's number, layer and place
-abbrev pub code : ℕ → Layer → ℕ → FaultCode
-code n l p = record { number = n; layer = l; place = p }
-
-abbrev pub code_of : FramingFault → FaultCode
-code_of NoHeader = code 2 layer.Framing 0
-code_of NoBody = code 3 layer.Framing 1
-code_of Overlong = code 4 layer.Framing 15
+abbrev pub framing_code : FramingFault → FaultCode
+framing_code NoHeader = fault_code 2 Framing 0
+framing_code NoBody = fault_code 3 Framing 1
+framing_code Overlong = fault_code 4 Framing 15
 
 -- Packets, as the definitions above speak of them.
 
 abbrev pub bytes_of : Packet → List ℕ
 bytes_of p = p.bytes
 
-abbrev pub told : Result (Option Packet) FramingFault → Event
-told (Ok None) = Ok None
-told (Ok (Some p)) = Ok (Some (bytes_of p))
-told (Err e) = Err e
+abbrev pub event_told : Result (Option Packet) FramingFault → Event
+event_told (Ok None) = Ok None
+event_told (Ok (Some p)) = Ok (Some (bytes_of p))
+event_told (Err e) = Err e

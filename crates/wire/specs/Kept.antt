@@ -1,5 +1,5 @@
 -- Up to 16 bytes kept in a room of 16, with 0 in the rest of the room.
-use Rattle.std.specs.Prelude.{◌≡◌, ℕ, ◌-◌, ◌≤◌, cond, List, ◌++◌, length, take, replicate, Ok, Err, Result, nat_le}
+use Rattle.std.specs.Prelude.{◌≡◌, ℕ, ◌-◌, ◌≤◌, if◌then◌else◌, List, ◌++◌, length, take, replicate, Ok, Err, Result, nat_le}
 use Rattle.wire.specs.declared.bytes.Full.{Full}
 
 -- the room that bytes stand in
@@ -14,4 +14,4 @@ pub record Padded (n : ℕ) (room : List ℕ) : Type 0 where
 
 -- bytes, if there is room for them
 abbrev pub if_room : List ℕ → Result (List ℕ) Full
-if_room bs = cond (nat_le (length bs) 16) (Ok bs) (Err (record {}))
+if_room bs = if nat_le (length bs) 16 then Ok bs else Err (record {})

@@ -1,16 +1,16 @@
 -- What framing means for whole lines of bytes.
 use Rattle.std.specs.Prelude.{◌≡◌, ℕ, true, List, [], ◌∷◌, ◌++◌, Some, None, Ok}
-use Rattle.wire.specs.Framing.{Held, none, next, Event, event}
+use Rattle.wire.specs.Framing.{Held, none, held_after, Event, event}
 use Rattle.wire.specs.Packets.{is_packet}
 
 -- what bytes in a row make of what stands before them, and tell
 abbrev pub after : Held → List ℕ → Held
 after h [] = h
-after h (b ∷ bs) = after (next h b) bs
+after h (b ∷ bs) = after (held_after h b) bs
 
 abbrev pub events : Held → List ℕ → List Event
 events h [] = []
-events h (b ∷ bs) = event h b ∷ events (next h b) bs
+events h (b ∷ bs) = event h b ∷ events (held_after h b) bs
 
 -- nothing for each of the bytes but the last, and the packet p for the last
 abbrev pub at_last : List ℕ → List ℕ → List Event

@@ -1,7 +1,7 @@
 //! What the framer makes of each byte.
 
 ghost use Rattle.std.specs.Prelude.{◌≡◌};
-ghost use Rattle.wire.specs.Framing.{none, next, event, told};
+ghost use Rattle.wire.specs.Framing.{none, held_after, event, event_told};
 
 use crate::bytes::Bytes;
 use crate::framer::{Framer, FramingFault, State};
@@ -19,8 +19,8 @@ impl Framer {
     #[tactic(auto, using(crate::proofs::Forms::begun_more, crate::proofs::Forms::begun_whole))]
     #[inline]
     pub fn feed(&mut self, byte: u8) -> Result<Option<Packet>, FramingFault>
-        ensures state { self.new ≡ next self.old byte }
-        ensures event { told result ≡ event self.old byte }
+        ensures state { self.new ≡ held_after self.old byte }
+        ensures event { event_told result ≡ event self.old byte }
     {
         match (&mut self.state, byte) {
             (State::Idle, 0x80..=0xfe) => {

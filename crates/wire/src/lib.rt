@@ -6,7 +6,7 @@
 #![tactic(auto)]
 
 mod bytes;
-mod fault;
+mod faults;
 mod feed;
 mod framer;
 mod packet;
@@ -16,7 +16,6 @@ mod words;
 mod writer;
 
 pub use bytes::{Bytes, Full};
-pub use fault::{FaultCode, Layer};
 pub use framer::{Framer, FramingFault};
 pub use packet::Packet;
 pub use writer::send_at;

@@ -8,7 +8,7 @@ use Rattle.head.specs.declared.target.Target.{Target}
 use Rattle.head.specs.Orders.{wants}
 use Rattle.head.specs.Settings.{about, same}
 use Rattle.head.specs.Values.{value_of}
-use Rattle.heads.specs.Rigs.{given}
+use Rattle.heads.specs.Rigs.{target_given}
 use Rattle.heads.proofs.Given.{given_last, in_range_last}
 use Rattle.heads.proofs.tick.give.Goals as goal
 
@@ -28,7 +28,7 @@ loop-left-preserved-then-is_none c =
       h.0,
       λ (s : Setting).
           let e : value_of c.put.new.self s ≡ cond (is_none (about x.setting).axis && same s x.setting) x.value (value_of c.loop-left.settings s) = c.put.ensures s ∙ simp (v, n) in
-          ap (given (about s).axis (wants (take (length ts - 1) ts) s)) e ∙ sym (given_last ts d s (value_of c.loop-left.settings s) l) ∙ i.2 s,
+          ap (target_given (about s).axis (wants (take (length ts - 1) ts) s)) e ∙ sym (given_last ts d s (value_of c.loop-left.settings s) l) ∙ i.2 s,
     )
 
 pub loop-left-preserved : goal.loop-left-preserved

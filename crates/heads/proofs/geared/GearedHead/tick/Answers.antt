@@ -1,7 +1,7 @@
 use Rattle.std.proofs.Common.{◌∙◌, subst}
 use Rattle.heads.specs.declared.motion.Motion.{Motion}
 use Rattle.heads.specs.Exact.{Ran}
-use Rattle.heads.specs.Rigs.{means}
+use Rattle.heads.specs.Rigs.{rig_meaning}
 use Rattle.heads.proofs.Punctual.{rig_keeps}
 use Rattle.heads.proofs.Rigs.{ticked}
 use Rattle.heads.proofs.geared.GearedHead.tick.Goals as goal
@@ -13,7 +13,7 @@ invariant_of-self g c =
     let r = c.tick.new.self in
     record {
       moves = c.tick.ensures.motion ∙ h.moves;
-      on_time = λ e. (rig_keeps p h.rig r c.tick.result (subst (λ (m : Motion). Ran m (means p h.rig) c.tick.result (means p r)) (h.moves ∙ e) (c.tick.ensures.ran p)) (h.on_time e)).0;
+      on_time = λ e. (rig_keeps p h.rig r c.tick.result (subst (λ (m : Motion). Ran m (rig_meaning p h.rig) c.tick.result (rig_meaning p r)) (h.moves ∙ e) (c.tick.ensures.ran p)) (h.on_time e)).0;
     }
 
 pub returns-clause-lawful : goal.returns-clause-lawful
@@ -23,11 +23,11 @@ pub returns-clause-exact : goal.returns-clause-exact
 returns-clause-exact g c =
     let h = c.args.self.now in
     let p = g.G.Gear.PAN_TILT in
-    subst (λ (m : Motion). Ran m (means p h.rig) c.tick.result (means p c.tick.new.self)) h.moves (c.tick.ensures.ran p)
+    subst (λ (m : Motion). Ran m (rig_meaning p h.rig) c.tick.result (rig_meaning p c.tick.new.self)) h.moves (c.tick.ensures.ran p)
 
 pub returns-clause-arrives : goal.returns-clause-arrives
 returns-clause-arrives g c e =
     let h = c.args.self.now in
     let p = g.G.Gear.PAN_TILT in
     let r = c.tick.new.self in
-    (rig_keeps p h.rig r c.tick.result (subst (λ (m : Motion). Ran m (means p h.rig) c.tick.result (means p r)) (h.moves ∙ e) (c.tick.ensures.ran p)) (h.on_time e)).1
+    (rig_keeps p h.rig r c.tick.result (subst (λ (m : Motion). Ran m (rig_meaning p h.rig) c.tick.result (rig_meaning p r)) (h.moves ∙ e) (c.tick.ensures.ran p)) (h.on_time e)).1

@@ -6,7 +6,7 @@ use Rattle.head.specs.declared.settings.Settings.{Settings}
 use Rattle.head.specs.Settings.{about, position, drive, Small}
 use Rattle.head.specs.Values.{value_of}
 use Rattle.head.proofs.Bounds.{settings_small}
-use Rattle.heads.specs.Motion.{unit, held}
+use Rattle.heads.specs.Motion.{unit, held_to_range}
 use Rattle.heads.proofs.Drives.{Gentle, gentle}
 use Rattle.heads.proofs.rig.Rig.driven.Goals as goal
 
@@ -43,7 +43,7 @@ returns-in-AtOnce c =
     let x = c.args.self.now.settings in
     let a = c.args.axis in
     let t : back c.held.result ≡ c.held.result = omega (arith, ints) in
-    let h : c.held.result ≡ held (about (position a)).range (value_of x (position a) +ℤ pos (unit a) *ℤ value_of x (drive a)) =
+    let h : c.held.result ≡ held_to_range (about (position a)).range (value_of x (position a) +ℤ pos (unit a) *ℤ value_of x (drive a)) =
     c.held.ensures
     ∙ simp (c.range.ensures, c.position-in-AtOnce.ensures, c.from.ensures, c.unit.ensures.is, c.get-from.ensures, c.position.ensures, c.get-drive.ensures, c.drive.ensures, (pushed x a).2) in
     elim c.in-AtOnce.is [

@@ -4,7 +4,7 @@ use Rattle.head.specs.Meaning.{Meaning, rest}
 use Rattle.head.specs.Values.{value_of}
 use Rattle.heads.specs.declared.job.Job.{Job}
 use Rattle.heads.specs.Exact.{slot_of}
-use Rattle.heads.specs.Rigs.{means}
+use Rattle.heads.specs.Rigs.{rig_meaning}
 use Rattle.heads.proofs.Lawful.{moved_one, moved_two, foretold_is}
 use Rattle.heads.proofs.rig.Rig.work.Goals as goal
 
@@ -12,7 +12,7 @@ pub returns-clause-ran : goal.returns-clause-ran
 returns-clause-ran c p =
     let r = c.args.self.now in
     let e : Endings = record { one = c.ending-one.result; two = c.ending-two.result } in
-    let m = means p r in
+    let m = rig_meaning p r in
     let m' : Meaning = record { setting = value_of c.advance.new.self.settings; pantilt = p; slots = m.slots } in
     record {
       pantilt = refl;

@@ -4,7 +4,7 @@ use Rattle.head.specs.Meaning.{busy, order_in}
 use Rattle.head.proofs.Apart.{apart_sym, apart_held}
 use Rattle.head.proofs.Starts.{slot_one_or_two, not_in_use, takes}
 use Rattle.wild.specs.Works.{slot_of}
-use Rattle.wild.specs.Wilds.{means}
+use Rattle.wild.specs.Wilds.{wild_meaning}
 use Rattle.wild.proofs.acts.WildHead.start.Goals as goal
 
 pub invariant_of-self : goal.invariant_of-self
@@ -23,7 +23,7 @@ invariant_of-self-else-slot-eq1 c =
 pub returns-then-slot-eq1 : goal.returns-then-slot-eq1
 returns-then-slot-eq1 c =
     let h = c.args.self.now in
-    takes (means h) c.args.slot c.args.order.now (1 + c.roll.result) _ c.in_ok-admit.ensures (omega arith) (omega arith) (simp c.if-slot-eq1.true)
+    takes (wild_meaning h) c.args.slot c.args.order.now (1 + c.roll.result) _ c.in_ok-admit.ensures (omega arith) (omega arith) (simp c.if-slot-eq1.true)
 
 pub returns-else-slot-eq1 : goal.returns-else-slot-eq1
 returns-else-slot-eq1 c =
@@ -31,4 +31,4 @@ returns-else-slot-eq1 c =
     let two : c.args.slot ≡ 2 =
     elim (slot_one_or_two h.pan_tilt (order_in (slot_of h.one)) (order_in (slot_of h.two)) c.args.slot c.args.order.now c.in_ok-admit.ensures)
     [ inl i ↦ absurd (c.if-slot-eq1.false i) | inr i ↦ i ] in
-    takes (means h) c.args.slot c.args.order.now (1 + c.roll.result) _ c.in_ok-admit.ensures (omega arith) (omega arith) (simp two)
+    takes (wild_meaning h) c.args.slot c.args.order.now (1 + c.roll.result) _ c.in_ok-admit.ensures (omega arith) (omega arith) (simp two)

@@ -4,13 +4,13 @@ use Rattle.head.specs.declared.setting.Setting.TheVariants.{Power}
 use Rattle.head.specs.Settings.{all}
 use Rattle.head.specs.Values.{value_of}
 use Rattle.head.proofs.Tables.{below, number_at}
-use Rattle.wild.specs.Wilds.{means, Goes}
+use Rattle.wild.specs.Wilds.{wild_meaning, Goes}
 use Rattle.wild.proofs.Steps.{passed_more}
 use Rattle.wild.proofs.wild.Wild.advanced.Goals as goal
 
 pub loop-setting-preserved : goal.loop-setting-preserved
 loop-setting-preserved c =
-    let m = means c.args.self.now in
+    let m = wild_meaning c.args.self.now in
     let k = c.loop-setting.setting-index in
     let x = get_or all k Power in
     let f : SFits w32 c.step.result = search rules in

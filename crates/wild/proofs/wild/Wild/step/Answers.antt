@@ -1,13 +1,13 @@
 use Rattle.std.proofs.Common.{ℤ, sym, ◌∙◌, subst, w32, SFits, rules}
 use Rattle.std.proofs.lemmas.Int.{to_z-of_z}
-use Rattle.wild.specs.Wilds.{means, Goes}
+use Rattle.wild.specs.Wilds.{wild_meaning, Goes}
 use Rattle.wild.proofs.Steps.{wanted_in_range, goes}
 use Rattle.wild.proofs.wild.Wild.step.Goals as goal
 
 pub returns : goal.returns
 returns c =
     let h = c.args.self.now in
-    let m = means h in
+    let m = wild_meaning h in
     let e = c.args.endings in
     let s = c.args.setting in
     let f : SFits w32 c.unwrap_or.result = search rules in

@@ -1,10 +1,11 @@
 //! Why a call was refused, or what is wrong with what it was given.
 
 ghost use Rattle.std.specs.Prelude.{◌≡◌};
-ghost use Rattle.end.specs.Faults.{code_of, count, without_reply};
+ghost use Rattle.end.specs.Faults.{cause_code, count_told, without_reply};
 
+use fault::{FaultCode, Layer};
 use rows::PacketFault;
-use wire::{FaultCode, FramingFault, Layer};
+use wire::FramingFault;
 
 /// What is wrong, by the layer that finds it.
 #[derive(Clone, Copy, Debug, PartialEq, Eq)]
@@ -37,7 +38,7 @@ impl From<FramingFault> for Fault {
 
 // The fault of a lower layer is passed on whole.
 impl From<Fault> for FaultCode {
-    ghost from_gives = { λ fault code. code ≡ code_of fault.cause };
+    ghost from_gives = { λ fault code. code ≡ cause_code fault.cause };
 
     fn from(fault: Fault) -> FaultCode {
         match fault.cause {
@@ -54,7 +55,7 @@ impl From<Fault> for FaultCode {
 
 /// How many bytes a call sent, with its fault or without.
 pub fn bytes_sent(answer: Result<usize, Fault>) -> usize
-    ensures { result ≡ count answer }
+    ensures { result ≡ count_told answer }
 {
     answer.unwrap_or_else(|fault| fault.sent)
 }
