@@ -20,7 +20,7 @@ use Rattle.rows.specs.declared.request.Request.TheVariants as request
 use Rattle.rows.specs.declared.table.TableRow.{TableRow}
 use Rattle.rows.specs.Codes.{setting_of}
 use Rattle.rows.specs.Commands.{with_order, read_command}
-use Rattle.rows.specs.Digits.{from_digits}
+use Rattle.rows.specs.Digits.{four_digits}
 use Rattle.rows.specs.Inquiries.{read_inquiry}
 use Rattle.rows.specs.OneRow.{row_at, admitted_by, ReadByOne}
 use Rattle.rows.specs.Orders.{order_of}
@@ -56,14 +56,14 @@ driven_in_range : (p : Paces) (d e : ℕ) → InRange (pan_tilt_driven p d e)
 driven_in_range p d e = bind_in_range (steered Up d p.pan) _ (λ x. bind_in_range (steered Down e p.tilt) _ (λ y. ranged_in_range _))
 
 placed_in_range : (p : Paces) (xs ys : List ℕ) → InRange (pan_tilt_placed p xs ys)
-placed_in_range p xs ys = bind_in_range (from_digits xs) _ (λ x. bind_in_range (from_digits ys) _ (λ y. ranged_in_range _))
+placed_in_range p xs ys = bind_in_range (four_digits xs) _ (λ x. bind_in_range (four_digits ys) _ (λ y. ranged_in_range _))
 
 means_in_range : (f : Operands) (s : Setting) (os : List ℕ) → InRange (operands_mean f s os)
-means_in_range Digit s os = cond_in_range _ _ (ranged_in_range _)
+means_in_range Digit s os = bind_in_range _ _ (λ n. ranged_in_range _)
 means_in_range (LensDrive e) s os = bind_in_range _ _ (λ d. ranged_in_range _)
 means_in_range (Position a lens) s os = bind_in_range _ _ (λ n. ranged_in_range _)
 means_in_range (PositionAtSpeed a) s os = cond_in_range _ _ (bind_in_range _ _ (λ n. ranged_in_range _))
-means_in_range Level s os = cond_in_range _ _ (ranged_in_range _)
+means_in_range Level s os = bind_in_range _ _ (λ n. ranged_in_range _)
 means_in_range Number s os = bind_in_range _ _ (λ n. ranged_in_range _)
 means_in_range PanTiltDrive s os = bind_in_range (turning (slice_index os 0) (slice_index os 1)) _ (λ p. driven_in_range p (slice_index os 2) (slice_index os 3))
 means_in_range PanTiltPosition s os = bind_in_range (turning (slice_index os 0) (slice_index os 1)) _ (λ p. placed_in_range p (four 2 os) (four 6 os))

@@ -1,21 +1,15 @@
 //! Inquiries answered, from whatever can be looked at.
 
 ghost use Rattle.std.specs.Prelude.{◌≡◌};
-ghost use Rattle.rows.specs.Answers.{looked_digits, answer_looked, pan_tilt_looked, sent as sent_into, count_of};
+ghost use Rattle.rows.specs.Answers.{answer_looked, pan_tilt_looked, sent as sent_into, count_of};
 
 use crate::digits::digits;
 use crate::inquiry::{Form, Inquiry};
-use head::{Look, Setting, value};
+use head::{Look, Setting};
 use wire::send_at;
 
-// The digits of a setting's value.
-fn shown<L: Look>(from: &L, setting: Setting) -> [u8; 4]
-    ensures { result ≡ looked_digits (L.Look.setting from.now) setting }
-{
-    digits(value(from, setting))
-}
-
 // Pan and tilt in eight digits, or error 41 without them.
+#[tactic(auto, using(crate::proofs::Looks::looked_is))]
 #[inline(always)]
 fn answer_pan_tilt<L: Look>(from: &L, header: u8, out: &mut [u8]) -> Option<usize>
     ensures count { result ≡ count_of (pan_tilt_looked L.Look from.now header) out.old }
@@ -24,23 +18,33 @@ fn answer_pan_tilt<L: Look>(from: &L, header: u8, out: &mut [u8]) -> Option<usiz
     if !from.has_pan_tilt() {
         return send_at(out, 0, &[header, 0x60, 0x41, 0xff]);
     }
-    let [a, b, c, d] = shown(from, Setting::Pan);
-    let [e, f, g, h] = shown(from, Setting::Tilt);
+    let [a, b, c, d] = digits(from.look(Setting::Pan.number())?);
+    let [e, f, g, h] = digits(from.look(Setting::Tilt.number())?);
     send_at(out, 0, &[header, 0x50, a, b, c, d, e, f, g, h, 0xff])
 }
 
 /// Puts the answer to an inquiry at the front of the buffer, behind the reply's header, and tells
 /// the count; a buffer that is too short for it is left as it is.
+#[tactic(auto, using(crate::proofs::Looks::looked_is))]
 #[inline(always)]
 pub fn answer<L: Look>(from: &L, inquiry: Inquiry, header: u8, out: &mut [u8]) -> Option<usize>
     ensures count { result ≡ count_of (answer_looked L.Look from.now header inquiry) out.old }
     ensures sent { out.new ≡ sent_into (answer_looked L.Look from.now header inquiry) out.old }
 {
-    let [p, q, r, s] = shown(from, inquiry.setting);
+    let number = inquiry.setting.number();
     match inquiry.form {
-        Form::Digit => send_at(out, 0, &[header, 0x50, s, 0xff]),
-        Form::Level => send_at(out, 0, &[header, 0x50, 0, 0, r, s, 0xff]),
-        Form::Number => send_at(out, 0, &[header, 0x50, p, q, r, s, 0xff]),
+        Form::Digit => {
+            let [_, _, _, s] = digits(from.look(number)?);
+            send_at(out, 0, &[header, 0x50, s, 0xff])
+        }
+        Form::Level => {
+            let [_, _, r, s] = digits(from.look(number)?);
+            send_at(out, 0, &[header, 0x50, 0, 0, r, s, 0xff])
+        }
+        Form::Number => {
+            let [p, q, r, s] = digits(from.look(number)?);
+            send_at(out, 0, &[header, 0x50, p, q, r, s, 0xff])
+        }
         Form::PanTilt => answer_pan_tilt(from, header, out),
     }
 }

@@ -1,12 +1,31 @@
 //! Numbers as packets have them: digits of four bits, one to a byte, highest first.
 
 ghost use Rattle.std.specs.Prelude.{◌≡◌};
-ghost use Rattle.head.specs.Settings.{Small};
-ghost use Rattle.rows.specs.Digits.{from_digits as word_of, signed as signed_of, bits as bits_of, digits as digits_of};
+ghost use Rattle.rows.specs.Digits.{one_digit as one_digit_in, two_digits as two_digits_in, four_digits as four_digits_in, signed as signed_of, bits as bits_of, digits as digits_of};
 
-/// The number of four digits; none if a byte is no digit.
-pub(crate) fn word(digits: [u8; 4]) -> Option<u16>
-    ensures { result ≡ word_of digits }
+/// The number of `0p`.
+pub(crate) fn one_digit(p: u8) -> Option<u8>
+    ensures { result ≡ one_digit_in p }
+{
+    match p {
+        0..=15 => Some(p),
+        _ => None,
+    }
+}
+
+/// The number of `00 00 0p 0q`.
+pub(crate) fn two_digits(digits: [u8; 4]) -> Option<u8>
+    ensures { result ≡ two_digits_in digits }
+{
+    match digits {
+        [0, 0, p @ 0..=15, q @ 0..=15] => Some(p * 16 + q),
+        _ => None,
+    }
+}
+
+/// The number of four digits.
+pub(crate) fn four_digits(digits: [u8; 4]) -> Option<u16>
+    ensures { result ≡ four_digits_in digits }
 {
     match digits.map(u16::from) {
         [p @ 0..=15, q @ 0..=15, r @ 0..=15, s @ 0..=15] => Some(p * 4096 + q * 256 + r * 16 + s),
@@ -21,16 +40,16 @@ pub(crate) fn signed(n: u16) -> i32
     i32::from(n.cast_signed())
 }
 
-// And back: the sixteen bits of a value.
+// And back: the lowest sixteen bits of a value.
 fn bits(value: i32) -> u16
-    ensures { Small value → result ≡ bits_of value }
+    ensures { result ≡ bits_of value }
 {
     value.rem_euclid(0x1_0000) as u16
 }
 
-/// The four digits of a value.
+/// The four digits of a value's lowest sixteen bits.
 pub(crate) fn digits(value: i32) -> [u8; 4]
-    ensures { Small value → result ≡ digits_of (bits_of value) }
+    ensures { result ≡ digits_of (bits_of value) }
 {
     let n = bits(value);
     [

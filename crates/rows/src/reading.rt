@@ -1,10 +1,10 @@
 //! Operands to what they say. Every byte counts, and every target must be in range.
 
 ghost use Rattle.std.specs.Prelude.{◌≡◌, pos};
-ghost use Rattle.rows.specs.Reading.{ranged as ranged_by, alone as alone_by, digit as digit_by, pushed as pushed_by, turned as turned_by, lens_driven as driven_by, placed as placed_by, placed_at as placed_at_by, level as level_by, four_digits as number_by, turning as turning_by, steered as steered_by, pan_tilt_driven as pan_tilt_driven_by, pan_tilt as pan_tilt_by, pan_tilt_placed as pan_tilt_placed_by, home as home_by, reads};
+ghost use Rattle.rows.specs.Reading.{ranged as ranged_by, alone as alone_by, pushed as pushed_by, turned as turned_by, lens_driven as driven_by, placed as placed_by, placed_at as placed_at_by, turning as turning_by, steered as steered_by, pan_tilt_driven as pan_tilt_driven_by, pan_tilt as pan_tilt_by, pan_tilt_placed as pan_tilt_placed_by, home as home_by, reads};
 
 use crate::command::{Command, LensPosition, PanTiltMove, STILL};
-use crate::digits::{signed, word};
+use crate::digits::{four_digits, one_digit, signed, two_digits};
 use crate::operands::{OperandForm, Operands, Sense};
 use head::{Axis, Paces, Setting, Target};
 
@@ -22,15 +22,6 @@ fn alone(setting: Setting, value: i32) -> Option<Command>
     ensures { result ≡ alone_by setting value }
 {
     ranged(Command::Set(Target { setting, value }))
-}
-
-fn digit(setting: Setting, p: u8) -> Option<Command>
-    ensures { result ≡ digit_by setting p }
-{
-    match p {
-        0..=15 => alone(setting, i32::from(p)),
-        _ => None,
-    }
 }
 
 // What a drive's operand asks for, where up is up.
@@ -67,7 +58,7 @@ fn driven(sense: Sense, setting: Setting, b: u8) -> Option<Command>
 fn placed(axis: Axis, lens: u8, digits: [u8; 4]) -> Option<Command>
     ensures { result ≡ placed_by axis lens digits }
 {
-    let position = i32::from(word(digits)?);
+    let position = i32::from(four_digits(digits)?);
     ranged(Command::Position(LensPosition {
         axis,
         lens,
@@ -83,21 +74,6 @@ fn placed_at(axis: Axis, n: u8, digits: [u8; 4]) -> Option<Command>
         0..=7 => placed(axis, n + 1, digits),
         _ => None,
     }
-}
-
-fn level(setting: Setting, operands: [u8; 4]) -> Option<Command>
-    ensures { result ≡ level_by setting operands }
-{
-    match operands {
-        [0, 0, p @ 0..=15, q @ 0..=15] => alone(setting, i32::from(p * 16 + q)),
-        _ => None,
-    }
-}
-
-fn number(setting: Setting, digits: [u8; 4]) -> Option<Command>
-    ensures { result ≡ number_by setting digits }
-{
-    alone(setting, i32::from(word(digits)?))
 }
 
 // The paces of pan and tilt.
@@ -146,7 +122,7 @@ fn pan_tilt(paces: Paces, pan: i32, tilt: i32) -> Option<Command>
 fn pan_tilt_placed(paces: Paces, x: [u8; 4], y: [u8; 4]) -> Option<Command>
     ensures { result ≡ pan_tilt_placed_by paces x y }
 {
-    pan_tilt(paces, signed(word(x)?), signed(word(y)?))
+    pan_tilt(paces, signed(four_digits(x)?), signed(four_digits(y)?))
 }
 
 fn home() -> Option<Command>
@@ -168,12 +144,18 @@ impl OperandForm for Operands {
     #[inline(always)]
     fn read(&self, setting: Setting, operands: &[u8]) -> Option<Command> {
         match (*self, operands) {
-            (Operands::Digit, &[p]) => digit(setting, p),
+            (Operands::Digit, &[p]) => alone(setting, i32::from(one_digit(p)?)),
             (Operands::LensDrive(sense), &[b]) => driven(sense, setting, b),
             (Operands::Position(axis, lens), &[p, q, r, s]) => placed(axis, lens, [p, q, r, s]),
             (Operands::PositionAtSpeed(axis), &[n, p, q, r, s]) => placed_at(axis, n, [p, q, r, s]),
-            (Operands::Level, &[y, z, p, q]) => level(setting, [y, z, p, q]),
-            (Operands::Number, &[p, q, r, s]) => number(setting, [p, q, r, s]),
+            (Operands::Level, &[y, z, p, q]) => alone(
+                setting,
+                i32::from(two_digits([y, z, p, q])?),
+            ),
+            (Operands::Number, &[p, q, r, s]) => alone(
+                setting,
+                i32::from(four_digits([p, q, r, s])?),
+            ),
             (Operands::PanTiltDrive, &[v, w, d, e]) => pan_tilt_driven(turning(v, w)?, d, e),
             (Operands::PanTiltPosition, &[v, w, a, b, c, d, e, f, g, h]) => {
                 pan_tilt_placed(turning(v, w)?, [a, b, c, d], [e, f, g, h])
