@@ -1,6 +1,5 @@
 -- The command rows, and what a command is read as.
-use Rattle.std.specs.Prelude.{ℕ, List, [], ◌∷◌, Ok, Err, Result}
-use Rattle.head.specs.declared.order.Order.{Order}
+use Rattle.std.specs.Prelude.{ℕ, List, [], ◌∷◌, Result}
 use Rattle.head.specs.declared.setting.Axis.TheVariants as axis
 use Rattle.head.specs.declared.setting.Setting.TheVariants.{Power, ZoomDrive, FocusDrive, Zoom, Focus, Identity, PanDrive, Pan}
 use Rattle.rows.specs.declared.codes.Codes.TheVariants.{One, Modes, Levels}
@@ -10,7 +9,6 @@ use Rattle.rows.specs.declared.operands.Operands.{Operands}
 use Rattle.rows.specs.declared.operands.Operands.TheVariants.{Digit, LensDrive, Position, PositionAtSpeed, Level, Number, PanTiltDrive, PanTiltPosition, Home}
 use Rattle.rows.specs.declared.operands.Sense.TheVariants.{Up, Down}
 use Rattle.rows.specs.declared.table.TableRow.{TableRow}
-use Rattle.rows.specs.Orders.{order_of}
 use Rattle.rows.specs.Reading.{reads}
 use Rattle.rows.specs.Rows.{row, row_has, row_reads}
 use Rattle.rows.specs.Search.{found}
@@ -34,8 +32,3 @@ commands =
 -- what a command is read as, behind its first byte, with its row's place; shut, since the table is long
 unfoldable pub read_command : List ℕ → Result (ℕ × Command) RowFault
 read_command body = found row_has (row_reads reads) commands body
-
--- the same, with the order that the command is
-abbrev pub with_order : Result (ℕ × Command) RowFault → Result (ℕ × Order) RowFault
-with_order (Ok p) = Ok (p.0, order_of p.1)
-with_order (Err e) = Err e

@@ -1,7 +1,7 @@
 //! The command rows: what packets make the head do.
 
-ghost use Rattle.std.specs.Prelude.{◌≡◌};
-ghost use Rattle.rows.specs.Commands.{with_order, read_command as command_read};
+ghost use Rattle.std.specs.Prelude.{◌≡◌, ◌∷◌};
+ghost use Rattle.rows.specs.Commands.{read_command as command_read};
 ghost use Rattle.rows.specs.OneRow.{ByOneRow};
 
 use crate::codes::Codes::{Levels, Modes, One};
@@ -13,8 +13,8 @@ use crate::operands::Operands::{
 };
 use crate::operands::{Operands, Sense};
 use crate::table::{TableRow, row};
+use head::Axis;
 use head::Setting::{Focus, FocusDrive, Identity, Pan, PanDrive, Power, Zoom, ZoomDrive};
-use head::{Axis, Order};
 
 /// A row of the command table.
 pub type CommandRow = TableRow<Operands>;
@@ -49,19 +49,11 @@ pub const COMMANDS: [CommandRow; 12] = [
 
 /// Reads a command behind its first byte, `01`: the place of the one row that admits it, from 0, and
 /// what it says.
-#[tactic(auto, unfolding(crate::specs::Commands::read_command))]
+#[tactic(auto, using(crate::proofs::OneRow::as_read), unfolding(crate::specs::Commands::read_command))]
 #[inline(always)]
 pub fn find_command(body: &[u8]) -> Result<(usize, Command), RowFault>
-    ensures { result ≡ command_read body.now }
+    ensures is { result ≡ command_read body.now }
+    ensures one_row { ByOneRow (0x01 ∷ body.now) result }
 {
     find_row(&COMMANDS, body)
-}
-
-/// The same, with the order that it is.
-pub fn read_command(body: &[u8]) -> Result<(usize, Order), RowFault>
-    ensures is { result ≡ with_order (command_read body.now) }
-    ensures one_row { ByOneRow body.now result }
-{
-    let (row, command) = find_command(body)?;
-    Ok((row, command.order()))
 }

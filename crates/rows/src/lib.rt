@@ -17,13 +17,14 @@ mod reading;
 mod request;
 mod row;
 mod table;
+pub mod theorems;
 pub mod tried;
 mod words;
 
 pub use answers::answer;
 pub use codes::Codes;
 pub use command::{Command, LensPosition, PanTiltMove};
-pub use commands::{COMMANDS, CommandRow, find_command, read_command};
+pub use commands::{COMMANDS, CommandRow, find_command};
 pub use faults::{PacketFault, RowFault};
 pub use find::find_row;
 pub use inquiries::{INQUIRIES, InquiryRow, NoOperands, read_inquiry};

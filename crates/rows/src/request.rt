@@ -4,6 +4,7 @@ ghost use Rattle.std.specs.Prelude.{◌≡◌};
 ghost use Rattle.rows.specs.declared.faults.PacketFault.TheVariants.{Row as RowF};
 ghost use Rattle.rows.specs.Commands.{read_command as command_read};
 ghost use Rattle.rows.specs.Inquiries.{read_inquiry as inquiry_read};
+ghost use Rattle.rows.specs.OneRow.{RequestByOneRow};
 ghost use Rattle.rows.specs.Requests.{as_command, as_inquiry, read_body, packet_code};
 ghost use Rattle.rows.specs.Search.{row_code};
 
@@ -54,9 +55,11 @@ fn asked(rest: &[u8]) -> Result<Request, PacketFault>
 }
 
 /// Reads a body: `01` begins a command, `09` an inquiry.
+#[tactic(auto, using(crate::proofs::OneRow::as_requested))]
 #[inline(always)]
 pub fn read(body: &[u8]) -> Result<Request, PacketFault>
-    ensures { result ≡ read_body body.now }
+    ensures is { result ≡ read_body body.now }
+    ensures one_row { RequestByOneRow body.now result }
 {
     match body {
         [COMMAND, rest @ ..] => command(rest),
