@@ -12,7 +12,7 @@ use Rattle.wire.specs.Packets.{no_end}
 
 -- Digits are no FF.
 
-few_bits : (v : ℤ) → bits v < 65536
+pub few_bits : (v : ℤ) → bits v < 65536
 few_bits (pos n) = omega arith
 few_bits (negsuc n) = omega arith
 

@@ -29,6 +29,7 @@ use Rattle.rows.specs.Search.{row_meaning, first_or, first_of}
 use Rattle.wire.specs.Packets.{body_of}
 use Rattle.rows.proofs.Somes.{when_some, bound}
 use Rattle.rows.proofs.Subjects.{code_is_subject}
+use Rattle.rows.proofs.Targets.{meaning_in_range}
 
 -- What a row that admits a command has of it.
 
@@ -163,6 +164,7 @@ by_one_row k c os (Some p) e h =
       place = slice_get_within commands p.0 x.row x.place;
       command = h;
       only = λ j s. one_row p.0 j (0x01 ∷ k ∷ c ∷ os) p.1 h s;
+      in_range = meaning_in_range x.row k c os p.1 x.meaning;
       subject = rw x.place (code_is_subject p.0 x.row k c os p.1 x.place x.meaning);
     }
 

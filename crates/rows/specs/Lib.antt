@@ -10,5 +10,6 @@ pub mod Forms
 pub mod Inquiries
 pub mod Requests
 pub mod Answers
+pub mod Told
 pub mod OneRow
 pub mod Tried

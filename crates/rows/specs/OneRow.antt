@@ -3,6 +3,7 @@ use Rattle.std.specs.Prelude.{◌≡◌, ◌↔◌, ℕ, ◌+◌, ◌<◌, Bool,
 use Rattle.std.specs.Option.{option_and_then}
 use Rattle.head.specs.declared.order.Order.{Order}
 use Rattle.head.specs.declared.setting.Setting.{Setting}
+use Rattle.head.specs.Orders.{parts, all_in_range}
 use Rattle.rows.specs.declared.command.Command.{Command}
 use Rattle.rows.specs.declared.faults.PacketFault.{PacketFault}
 use Rattle.rows.specs.declared.faults.RowFault.{RowFault}
@@ -35,11 +36,13 @@ admitted_by i (t ∷ k ∷ c ∷ os) =
 abbrev pub code_setting : ℕ → List ℕ → Option Setting
 code_setting i body = option_and_then (λ r. setting_of r.codes (slice_index body 2)) (row_at i)
 
--- the row at place i admits the body as this command, and no other row admits it; its code stands for what it is about
+-- the row at place i admits the body as this command, and no other row admits it; every target is in range, and the body's
+-- code stands for what the command is about
 pub record ReadByOne (body : List ℕ) (i : ℕ) (c : Command) : Type 0 where
   pub place : i < length commands
   pub command : admitted_by i body ≡ Some c
   pub only : (j : ℕ) → is_some (admitted_by j body) ≡ true → j ≡ i
+  pub in_range : all_in_range (parts (order_of c).targets) ≡ true
   pub subject : code_setting i body ≡ Some (subject c)
 
 abbrev pub ReadByNone : List ℕ → Type 0

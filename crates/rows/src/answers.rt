@@ -1,7 +1,8 @@
 //! Inquiries answered, from whatever can be looked at.
 
-ghost use Rattle.std.specs.Prelude.{◌≡◌};
+ghost use Rattle.std.specs.Prelude.{◌≡◌, IfSome, take};
 ghost use Rattle.rows.specs.Answers.{answer_looked, pan_tilt_looked, sent as sent_into, count_of};
+ghost use Rattle.rows.specs.Told.{TellsTruly};
 
 use crate::digits::digits;
 use crate::inquiry::{Form, Inquiry};
@@ -25,11 +26,13 @@ fn answer_pan_tilt<L: Look>(from: &L, header: u8, out: &mut [u8]) -> Option<usiz
 
 /// Puts the answer to an inquiry at the front of the buffer, behind the reply's header, and tells
 /// the count; a buffer that is too short for it is left as it is.
-#[tactic(auto, using(crate::proofs::Looks::looked_is))]
+#[tactic(auto, using(crate::proofs::Looks::looked_is, crate::proofs::Telling::answered))]
 #[inline(always)]
 pub fn answer<L: Look>(from: &L, inquiry: Inquiry, header: u8, out: &mut [u8]) -> Option<usize>
     ensures count { result ≡ count_of (answer_looked L.Look from.now header inquiry) out.old }
     ensures sent { out.new ≡ sent_into (answer_looked L.Look from.now header inquiry) out.old }
+    ensures values { IfSome result
+        (λ n. TellsTruly header inquiry (L.Look.setting from.now) (L.Look.pantilt from.now) (take n out.new)) }
 {
     let number = inquiry.setting.number();
     match inquiry.form {

@@ -1,5 +1,6 @@
 //! What the tables of rows come to: statements over every packet, each the contract of a function that does nothing.
 
+ghost use Rattle.rows.specs.Forms.{FormsFit};
 ghost use Rattle.rows.specs.OneRow.{ReadAsByOneRow, OneByteOffIsNoOrder};
 
 /// A packet is read as an order exactly when just one command row admits its body, and then it is
@@ -13,4 +14,9 @@ pub fn an_order_is_read_by_one_row()
 /// byte longer, and both are rows.
 pub fn one_byte_off_is_no_order()
     ensures { OneByteOffIsNoOrder }
+{}
+
+/// The form of an answer can tell every value in range of the settings that are told in it.
+pub fn forms_fit_their_settings()
+    ensures { FormsFit }
 {}
