@@ -21,7 +21,7 @@ use Rattle.rows.specs.OneRow.{row_at}
 use Rattle.rows.specs.Orders.{subject}
 use Rattle.rows.specs.Rows.{row_has, row_reads}
 use Rattle.rows.specs.Search.{row_meaning}
-use Rattle.rows.specs.Digits.{four_digits}
+use Rattle.rows.specs.Digits.{from_digits}
 use Rattle.rows.specs.Reading.{ranged, turning, steered, pan_tilt_driven, pan_tilt_placed, four, operands_mean, operand_count, reads}
 use Rattle.rows.proofs.Somes.{when_some, bound, Each, each_some, each_when, each_bound, of_each}
 
@@ -58,7 +58,7 @@ driven_about p d e =
 
 placed_about : (p : Paces) (xs ys : List ℕ) → About setting.Pan (pan_tilt_placed p xs ys)
 placed_about p xs ys =
-    bound_about setting.Pan (four_digits xs) _ (λ x. bound_about setting.Pan (four_digits ys) _ (λ y. ranged_about setting.Pan _ refl))
+    bound_about setting.Pan (from_digits xs) _ (λ x. bound_about setting.Pan (from_digits ys) _ (λ y. ranged_about setting.Pan _ refl))
 
 meaning_about : (f : Operands) (s : Setting) (os : List ℕ) → About (about_of f s) (operands_mean f s os)
 meaning_about Digit s os = bound_about s _ _ (λ n. ranged_about s _ refl)

@@ -11,7 +11,7 @@ use Rattle.rows.specs.declared.operands.Operands.TheVariants.{Digit, LensDrive, 
 use Rattle.rows.specs.declared.operands.Sense.TheVariants.{Up, Down}
 use Rattle.rows.specs.declared.table.TableRow.{TableRow}
 use Rattle.rows.specs.Codes.{setting_of}
-use Rattle.rows.specs.Digits.{four_digits}
+use Rattle.rows.specs.Digits.{from_digits}
 use Rattle.rows.specs.Orders.{order_of}
 use Rattle.std.specs.Option.{option_and_then}
 use Rattle.rows.specs.Reading.{ranged, turning, steered, pan_tilt_driven, pan_tilt_placed, four, operand_count, operands_mean, reads}
@@ -44,7 +44,7 @@ driven_in_range : (p : Paces) (d e : ℕ) → InRange (pan_tilt_driven p d e)
 driven_in_range p d e = bound_in_range (steered Up d p.pan) _ (λ x. bound_in_range (steered Down e p.tilt) _ (λ y. ranged_in_range _))
 
 placed_in_range : (p : Paces) (xs ys : List ℕ) → InRange (pan_tilt_placed p xs ys)
-placed_in_range p xs ys = bound_in_range (four_digits xs) _ (λ x. bound_in_range (four_digits ys) _ (λ y. ranged_in_range _))
+placed_in_range p xs ys = bound_in_range (from_digits xs) _ (λ x. bound_in_range (from_digits ys) _ (λ y. ranged_in_range _))
 
 means_in_range : (f : Operands) (s : Setting) (os : List ℕ) → InRange (operands_mean f s os)
 means_in_range Digit s os = bound_in_range _ _ (λ n. ranged_in_range _)

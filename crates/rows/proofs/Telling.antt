@@ -13,26 +13,26 @@ use Rattle.wire.specs.Line.{over}
 use Rattle.head.specs.declared.traits.Look.{Ghosts}
 use Rattle.std.proofs.lemmas.List.{take_at, length_push}
 use Rattle.std.specs.Prelude.{nat_le, drop}
-use Rattle.rows.specs.Digits.{one_digit, two_digits, four_digits, signed, bits, digits}
+use Rattle.rows.specs.Digits.{from_digit, from_level, from_digits, signed, bits, digits}
 use Rattle.rows.specs.Forms.{form_of, settings_told, CanTell}
 use Rattle.rows.specs.Told.{one_value, values_in, TellsTruly}
 use Rattle.rows.proofs.AnswerBytes.{few_bits}
 use Rattle.rows.proofs.Fitting.{in_form, tilt_in_form}
 use Rattle.wire.specs.Packets.{body_of}
 
-one_of : (n : ℕ) → n < 16 → one_digit n ≡ Some n
+one_of : (n : ℕ) → n < 16 → from_digit n ≡ Some n
 one_of n few = simp (lt-ltb n 16 few)
 
-two_of : (p q : ℕ) → p < 16 → q < 16 → two_digits (0 ∷ 0 ∷ p ∷ q ∷ []) ≡ Some (p * 16 + q)
+two_of : (p q : ℕ) → p < 16 → q < 16 → from_level (0 ∷ 0 ∷ p ∷ q ∷ []) ≡ Some (p * 16 + q)
 two_of p q few less = simp (lt-ltb p 16 few, lt-ltb q 16 less)
 
-four_of : (p q r s : ℕ) → p < 16 → q < 16 → r < 16 → s < 16 → four_digits (p ∷ q ∷ r ∷ s ∷ []) ≡ Some (p * 4096 + q * 256 + r * 16 + s)
+four_of : (p q r s : ℕ) → p < 16 → q < 16 → r < 16 → s < 16 → from_digits (p ∷ q ∷ r ∷ s ∷ []) ≡ Some (p * 4096 + q * 256 + r * 16 + s)
 four_of p q r s a b c d = simp (lt-ltb p 16 a, lt-ltb q 16 b, lt-ltb r 16 c, lt-ltb s 16 d)
 
 sum_of_digits : (n : ℕ) → n < 65536 → n / 4096 * 4096 + n / 256 % 16 * 256 + n / 16 % 16 * 16 + n % 16 ≡ n
 sum_of_digits n few = omega arith
 
-all_digits : (n : ℕ) → n < 65536 → four_digits (digits n) ≡ Some n
+all_digits : (n : ℕ) → n < 65536 → from_digits (digits n) ≡ Some n
 all_digits n few =
     four_of (n / 4096) (n / 256 % 16) (n / 16 % 16) (n % 16) (omega arith) (omega arith) (omega arith) (omega arith) ∙ ap Some (sum_of_digits n few)
 
@@ -67,19 +67,19 @@ module _ (f : Setting → ℤ) where
   one_told : (s : Setting) (n : Option ℕ) → n ≡ Some (bits (f s)) → pos (bits (f s)) ≡ f s → one_value n ≡ Some (f s ∷ [])
   one_told s n e g = ap one_value e ∙ ap (λ (v : ℤ). Some (v ∷ [])) g
 
-  digit_told : (s : Setting) → CanTell Digit (f s) → one_value (one_digit (bits (f s) % 16)) ≡ Some (f s ∷ [])
+  digit_told : (s : Setting) → CanTell Digit (f s) → one_value (from_digit (bits (f s) % 16)) ≡ Some (f s ∷ [])
   digit_told s h =
       let (few, is) = tells_number (f s) 15 h.low h.high (omega arith) in
       let same : bits (f s) % 16 ≡ bits (f s) = omega arith in
       one_told s _ (one_of (bits (f s) % 16) (omega arith) ∙ ap Some same) is
 
-  level_told : (s : Setting) → CanTell Level (f s) → one_value (two_digits (0 ∷ 0 ∷ bits (f s) / 16 % 16 ∷ bits (f s) % 16 ∷ [])) ≡ Some (f s ∷ [])
+  level_told : (s : Setting) → CanTell Level (f s) → one_value (from_level (0 ∷ 0 ∷ bits (f s) / 16 % 16 ∷ bits (f s) % 16 ∷ [])) ≡ Some (f s ∷ [])
   level_told s h =
       let (few, is) = tells_number (f s) 255 h.low h.high (omega arith) in
       let same : bits (f s) / 16 % 16 * 16 + bits (f s) % 16 ≡ bits (f s) = omega arith in
       one_told s _ (two_of (bits (f s) / 16 % 16) (bits (f s) % 16) (omega arith) (omega arith) ∙ ap Some same) is
 
-  number_told : (s : Setting) → CanTell Number (f s) → one_value (four_digits (digits (bits (f s)))) ≡ Some (f s ∷ [])
+  number_told : (s : Setting) → CanTell Number (f s) → one_value (from_digits (digits (bits (f s)))) ≡ Some (f s ∷ [])
   number_told s h =
       let (few, is) = tells_number (f s) 65535 h.low h.high (omega arith) in
       one_told s _ (all_digits (bits (f s)) (omega arith)) is

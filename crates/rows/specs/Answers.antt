@@ -17,7 +17,9 @@ abbrev pub answer_body : Form → (Setting → ℤ) → Setting → Bool → Lis
 answer_body Digit f s pantilt = 0x50 ∷ bits (f s) % 16 ∷ []
 answer_body Level f s pantilt = 0x50 ∷ 0 ∷ 0 ∷ bits (f s) / 16 % 16 ∷ bits (f s) % 16 ∷ []
 answer_body Number f s pantilt = 0x50 ∷ looked_digits f s
-answer_body PanTilt f s pantilt = if pantilt then 0x50 ∷ (looked_digits f Pan ++ looked_digits f Tilt) else 0x60 ∷ 0x41 ∷ []
+answer_body PanTilt f s pantilt =
+    if pantilt then 0x50 ∷ (looked_digits f Pan ++ looked_digits f Tilt)
+    else 0x60 ∷ 0x41 ∷ []
 
 -- the packet: header, answer, FF
 abbrev pub answer_in : ℕ → Form → Setting → (Setting → ℤ) → Bool → List ℕ

@@ -2,19 +2,19 @@
 use Rattle.std.specs.Prelude.{ℕ, ◌+◌, ◌-◌, ◌*◌, ◌/◌, ◌%◌, if◌then◌else◌, ◌&&◌, List, [], ◌∷◌, ℤ, pos, negsuc, Some, None, Option, ◌==◌, nat_lt, slice_index}
 
 -- the number of 0p
-abbrev pub one_digit : ℕ → Option ℕ
-one_digit p = if nat_lt p 16 then Some p else None
+abbrev pub from_digit : ℕ → Option ℕ
+from_digit p = if nat_lt p 16 then Some p else None
 
 -- the number of 00 00 0p 0q
-abbrev pub two_digits : List ℕ → Option ℕ
-two_digits ds =
+abbrev pub from_level : List ℕ → Option ℕ
+from_level ds =
     let p = slice_index ds 2 in
     let q = slice_index ds 3 in
     if slice_index ds 0 == 0 && slice_index ds 1 == 0 && nat_lt p 16 && nat_lt q 16 then Some (p * 16 + q) else None
 
 -- the number of 0p 0q 0r 0s
-abbrev pub four_digits : List ℕ → Option ℕ
-four_digits ds =
+abbrev pub from_digits : List ℕ → Option ℕ
+from_digits ds =
     let p = slice_index ds 0 in
     let q = slice_index ds 1 in
     let r = slice_index ds 2 in

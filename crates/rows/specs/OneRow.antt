@@ -1,4 +1,4 @@
--- A packet is read as an order exactly when one command row admits its body, and as the order that this row makes of it.
+-- A packet is read as an order exactly when one command row admits its body, and as that row's order.
 use Rattle.std.specs.Prelude.{◌≡◌, ◌↔◌, ℕ, ◌+◌, ◌<◌, Bool, true, false, if◌then◌else◌, ◌&&◌, ◌||◌, ◌⊎◌, List, [], ◌∷◌, length, is_some, Some, None, Ok, Err, Option, Result, MatchResult, ◌==◌, slice_get, slice_index}
 use Rattle.std.specs.Option.{option_and_then}
 use Rattle.head.specs.declared.order.Order.{Order}
@@ -36,8 +36,8 @@ admitted_by i (t ∷ k ∷ c ∷ os) =
 abbrev pub code_setting : ℕ → List ℕ → Option Setting
 code_setting i body = option_and_then (λ r. setting_of r.codes (slice_index body 2)) (row_at i)
 
--- the row at place i admits the body as this command, and no other row admits it; every target is in range, and the body's
--- code stands for what the command is about
+-- the row at place i admits the body as this command, and no other row admits it; every target is in range, and
+-- the body's code stands for what the command is about
 pub record ReadByOne (body : List ℕ) (i : ℕ) (c : Command) : Type 0 where
   pub place : i < length commands
   pub command : admitted_by i body ≡ Some c

@@ -43,7 +43,10 @@ order_of (PanTiltDrive p) =
 order_of (PanTiltPosition p) =
     record {
       targets =
-          Four (to setting.Pan p.pan ∷ to setting.Tilt p.tilt ∷ to setting.PanDrive (pos 0) ∷ to setting.TiltDrive (pos 0) ∷ []);
+          Four (
+          to setting.Pan p.pan ∷ to setting.Tilt p.tilt
+          ∷ to setting.PanDrive (pos 0) ∷ to setting.TiltDrive (pos 0) ∷ []
+          );
       paces = p.paces;
       distinct = refl;
     }

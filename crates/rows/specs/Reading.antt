@@ -13,7 +13,7 @@ use Rattle.rows.specs.declared.operands.Operands.{Operands}
 use Rattle.rows.specs.declared.operands.Operands.TheVariants.{Digit, LensDrive, Position, PositionAtSpeed, Level, Number, PanTiltDrive, PanTiltPosition, Home}
 use Rattle.rows.specs.declared.operands.Sense.{Sense}
 use Rattle.rows.specs.declared.operands.Sense.TheVariants.{Up, Down}
-use Rattle.rows.specs.Digits.{one_digit, two_digits, four_digits, signed}
+use Rattle.rows.specs.Digits.{from_digit, from_level, from_digits, signed}
 use Rattle.rows.specs.Orders.{to, paces, order_of}
 
 -- Commands.
@@ -50,7 +50,8 @@ abbrev pub lens_driven : Sense → Setting → ℕ → Option Command
 lens_driven e s b = option_and_then (λ d. alone s (turned e d)) (pushed b)
 
 abbrev pub placed : Axis → ℕ → List ℕ → Option Command
-placed a lens ds = option_and_then (λ n. ranged (says.Position (record { axis = a; lens = lens; position = pos n }))) (four_digits ds)
+placed a lens ds =
+    option_and_then (λ n. ranged (says.Position (record { axis = a; lens = lens; position = pos n }))) (from_digits ds)
 
 abbrev pub placed_at : Axis → ℕ → List ℕ → Option Command
 placed_at a n ds = if nat_le n 7 then placed a (n + 1) ds else None
@@ -62,16 +63,28 @@ turning v w = if nat_le 1 v && nat_le v 0x18 && nat_le 1 w && nat_le w 0x14 then
 -- 01 down, 02 up, 03 stop; or the other way
 abbrev pub steered : Sense → ℕ → ℕ → Option ℤ
 steered e d n =
-    first_case ((d == 1, Some (turned e (neg_ℤ (pos n)))) ∷ (d == 2, Some (turned e (pos n))) ∷ (d == 3, Some (pos 0)) ∷ []) None
+    first_case (
+    (d == 1, Some (turned e (neg_ℤ (pos n))))
+    ∷ (d == 2, Some (turned e (pos n)))
+    ∷ (d == 3, Some (pos 0))
+    ∷ []
+    ) None
 
 abbrev pub pan_tilt_driven : Paces → ℕ → ℕ → Option Command
-pan_tilt_driven p d e = option_and_then (λ x. option_and_then (λ y. ranged (says.PanTiltDrive (record { pan = x; tilt = y; paces = p }))) (steered Down e p.tilt)) (steered Up d p.pan)
+pan_tilt_driven p d e =
+    option_and_then
+    (λ x.
+    option_and_then (λ y. ranged (says.PanTiltDrive (record { pan = x; tilt = y; paces = p })))
+    (steered Down e p.tilt))
+    (steered Up d p.pan)
 
 abbrev pub pan_tilt : Paces → ℤ → ℤ → Option Command
 pan_tilt p x y = ranged (says.PanTiltPosition (record { pan = x; tilt = y; paces = p }))
 
 abbrev pub pan_tilt_placed : Paces → List ℕ → List ℕ → Option Command
-pan_tilt_placed p xs ys = option_and_then (λ x. option_and_then (λ y. pan_tilt p (signed x) (signed y)) (four_digits ys)) (four_digits xs)
+pan_tilt_placed p xs ys =
+    option_and_then (λ x. option_and_then (λ y. pan_tilt p (signed x) (signed y)) (from_digits ys))
+    (from_digits xs)
 
 abbrev pub home : Option Command
 home = pan_tilt (paces 0 24 20) (pos 0) (pos 0)
@@ -96,14 +109,18 @@ four i os = slice_index os i ∷ slice_index os (i + 1) ∷ slice_index os (i + 
 
 -- what a form makes of so many bytes, where its code stands for a setting
 abbrev pub operands_mean : Operands → Setting → List ℕ → Option Command
-operands_mean Digit s os = set_to s (one_digit (slice_index os 0))
+operands_mean Digit s os = set_to s (from_digit (slice_index os 0))
 operands_mean (LensDrive e) s os = lens_driven e s (slice_index os 0)
 operands_mean (Position a lens) s os = placed a lens (four 0 os)
 operands_mean (PositionAtSpeed a) s os = placed_at a (slice_index os 0) (four 1 os)
-operands_mean Level s os = set_to s (two_digits (four 0 os))
-operands_mean Number s os = set_to s (four_digits (four 0 os))
-operands_mean PanTiltDrive s os = option_and_then (λ p. pan_tilt_driven p (slice_index os 2) (slice_index os 3)) (turning (slice_index os 0) (slice_index os 1))
-operands_mean PanTiltPosition s os = option_and_then (λ p. pan_tilt_placed p (four 2 os) (four 6 os)) (turning (slice_index os 0) (slice_index os 1))
+operands_mean Level s os = set_to s (from_level (four 0 os))
+operands_mean Number s os = set_to s (from_digits (four 0 os))
+operands_mean PanTiltDrive s os =
+    option_and_then (λ p. pan_tilt_driven p (slice_index os 2) (slice_index os 3))
+    (turning (slice_index os 0) (slice_index os 1))
+operands_mean PanTiltPosition s os =
+    option_and_then (λ p. pan_tilt_placed p (four 2 os) (four 6 os))
+    (turning (slice_index os 0) (slice_index os 1))
 operands_mean Home s os = home
 
 -- what a form makes of operands: nothing, unless there are just so many bytes

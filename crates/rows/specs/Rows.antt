@@ -13,5 +13,6 @@ abbrev pub row_has : {F : Type 0} → TableRow F → ℕ → ℕ → Bool
 row_has r k c = k == r.category && is_some (setting_of r.codes c)
 
 -- where a form makes such things of operands, with a setting
-abbrev pub row_reads : {F M : Type 0} → (F → Setting → List ℕ → Option M) → TableRow F → ℕ → List ℕ → Option M
+abbrev pub row_reads : {F M : Type 0} → (F → Setting → List ℕ → Option M) →
+    TableRow F → ℕ → List ℕ → Option M
 row_reads reads r c os = option_and_then (λ s. reads r.form s os) (setting_of r.codes c)

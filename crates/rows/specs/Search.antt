@@ -9,7 +9,8 @@ use Rattle.fault.specs.declared.code.Layer.TheVariants as layer
 use Rattle.fault.specs.Faults.{fault_code}
 
 -- what a row makes of a category, a code and operands, if it admits them
-abbrev pub row_meaning : {X M : Type 0} → (X → ℕ → ℕ → Bool) → (X → ℕ → List ℕ → Option M) → ℕ → ℕ → List ℕ → X → Option M
+abbrev pub row_meaning : {X M : Type 0} → (X → ℕ → ℕ → Bool) → (X → ℕ → List ℕ → Option M) →
+    ℕ → ℕ → List ℕ → X → Option M
 row_meaning has reads k c os x = if has x k c then reads x c os else None
 
 abbrev pub first_or : {M : Type 0} → Option M → Option (ℕ × M) → Option (ℕ × M)
@@ -26,10 +27,13 @@ first_of f (x ∷ xs) = first_or (f x) (first_of f xs)
 abbrev pub fault_of : Bool → RowFault
 fault_of known = if known then NoSuchOperands else NoSuchCode
 
-abbrev pub found : {X M : Type 0} → (X → ℕ → ℕ → Bool) → (X → ℕ → List ℕ → Option M) → List X → List ℕ → Result (ℕ × M) RowFault
+-- the first row that admits a body, by its place, with what it makes of it; or what is wrong with the body
+abbrev pub found : {X M : Type 0} → (X → ℕ → ℕ → Bool) → (X → ℕ → List ℕ → Option M) →
+    List X → List ℕ → Result (ℕ × M) RowFault
 found has reads rows [] = Err NoSuchCode
 found has reads rows (k ∷ []) = Err NoSuchCode
-found has reads rows (k ∷ c ∷ os) = ok_or (first_of (row_meaning has reads k c os) rows) (fault_of (list_any (λ x. has x k c) rows))
+found has reads rows (k ∷ c ∷ os) =
+    ok_or (first_of (row_meaning has reads k c os) rows) (fault_of (list_any (λ x. has x k c) rows))
 
 -- each fault's number, layer and place
 abbrev pub row_code : RowFault → FaultCode

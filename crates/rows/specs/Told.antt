@@ -5,7 +5,7 @@ use Rattle.head.specs.declared.setting.Setting.{Setting}
 use Rattle.rows.specs.declared.inquiry.Form.{Form}
 use Rattle.rows.specs.declared.inquiry.Form.TheVariants.{Digit, Level, Number, PanTilt}
 use Rattle.rows.specs.declared.inquiry.Inquiry.{Inquiry}
-use Rattle.rows.specs.Digits.{one_digit, two_digits, four_digits, signed}
+use Rattle.rows.specs.Digits.{from_digit, from_level, from_digits, signed}
 use Rattle.rows.specs.Forms.{settings_told}
 use Rattle.rows.specs.Reading.{four}
 use Rattle.wire.specs.Packets.{body_of}
@@ -22,11 +22,12 @@ one_value n = option_map (λ v. pos v ∷ []) n
 
 -- the values of so many digits: a number, or pan and tilt in two's complement
 abbrev pub digits_tell : Form → List ℕ → Option (List ℤ)
-digits_tell Digit ds = one_value (one_digit (slice_index ds 0))
-digits_tell Level ds = one_value (two_digits ds)
-digits_tell Number ds = one_value (four_digits ds)
+digits_tell Digit ds = one_value (from_digit (slice_index ds 0))
+digits_tell Level ds = one_value (from_level ds)
+digits_tell Number ds = one_value (from_digits ds)
 digits_tell PanTilt ds =
-    option_and_then (λ x. option_map (λ y. signed x ∷ signed y ∷ []) (four_digits (four 4 ds))) (four_digits (four 0 ds))
+    option_and_then (λ x. option_map (λ y. signed x ∷ signed y ∷ []) (from_digits (four 4 ds)))
+    (from_digits (four 0 ds))
 
 -- the values that the body of an answer tells, 50 and its digits
 abbrev pub values_in : Form → List ℕ → Option (List ℤ)
@@ -38,4 +39,5 @@ pub record TellsTruly (header : ℕ) (q : Inquiry) (f : Setting → ℤ) (pantil
   -- error 41, where pan and tilt are asked for and there are none
   pub without : q.form ≡ PanTilt → pantilt ≡ false → p ≡ header ∷ 0x60 ∷ 0x41 ∷ 0xff ∷ []
   -- otherwise the values of what is asked for
-  pub values : (q.form ≡ PanTilt → pantilt ≡ true) → values_in q.form (body_of p) ≡ Some (map f (settings_told q.form q.setting))
+  pub values : (q.form ≡ PanTilt → pantilt ≡ true) →
+      values_in q.form (body_of p) ≡ Some (map f (settings_told q.form q.setting))

@@ -2,6 +2,7 @@
 
 ghost use Rattle.std.specs.Prelude.{◌≡◌};
 ghost use Rattle.head.specs.Orders.{parts, all_in_range};
+ghost use Rattle.rows.specs.Reading.{ranged as ranged_by};
 ghost use Rattle.rows.specs.Orders.{to as target_of, order_of, subject as subject_of};
 
 use head::{Axis, Order, Paces, Setting, Target, Targets};
@@ -49,9 +50,9 @@ pub(crate) fn to(setting: Setting, value: i32) -> Target
 }
 
 impl Command {
-    /// Whether every target of its order is in the range of its setting.
+    // Whether every target of its order is in the range of its setting.
     #[inline(always)]
-    pub(crate) fn in_range(self) -> bool
+    fn in_range(self) -> bool
         ensures { result ≡ all_in_range (parts (order_of self).targets) }
     {
         match self {
@@ -65,6 +66,15 @@ impl Command {
                 Setting::Pan.admits(to.pan) && Setting::Tilt.admits(to.tilt)
             }
         }
+    }
+
+    /// The command, if every target of its order is in range.
+    #[tactic(auto, unfolding(crate::specs::Reading::ranged))]
+    #[inline(always)]
+    pub(crate) fn ranged(self) -> Option<Command>
+        ensures { result ≡ ranged_by self }
+    {
+        self.in_range().then_some(self)
     }
 
     /// The setting that the command's code stands for: of a position its own, of pan and tilt that of pan.

@@ -1,11 +1,11 @@
 //! Numbers as packets have them: digits of four bits, one to a byte, highest first.
 
 ghost use Rattle.std.specs.Prelude.{◌≡◌};
-ghost use Rattle.rows.specs.Digits.{one_digit as one_digit_in, two_digits as two_digits_in, four_digits as four_digits_in, signed as signed_of, bits as bits_of, digits as digits_of};
+ghost use Rattle.rows.specs.Digits.{from_digit as digit_read, from_level as level_read, from_digits as digits_read, signed as signed_of, bits as bits_of, digits as digits_of};
 
 /// The number of `0p`.
-pub(crate) fn one_digit(p: u8) -> Option<u8>
-    ensures { result ≡ one_digit_in p }
+pub(crate) fn from_digit(p: u8) -> Option<u8>
+    ensures { result ≡ digit_read p }
 {
     match p {
         0..=15 => Some(p),
@@ -14,8 +14,8 @@ pub(crate) fn one_digit(p: u8) -> Option<u8>
 }
 
 /// The number of `00 00 0p 0q`.
-pub(crate) fn two_digits(digits: [u8; 4]) -> Option<u8>
-    ensures { result ≡ two_digits_in digits }
+pub(crate) fn from_level(digits: [u8; 4]) -> Option<u8>
+    ensures { result ≡ level_read digits }
 {
     match digits {
         [0, 0, p @ 0..=15, q @ 0..=15] => Some(p * 16 + q),
@@ -24,8 +24,8 @@ pub(crate) fn two_digits(digits: [u8; 4]) -> Option<u8>
 }
 
 /// The number of four digits.
-pub(crate) fn four_digits(digits: [u8; 4]) -> Option<u16>
-    ensures { result ≡ four_digits_in digits }
+pub(crate) fn from_digits(digits: [u8; 4]) -> Option<u16>
+    ensures { result ≡ digits_read digits }
 {
     match digits.map(u16::from) {
         [p @ 0..=15, q @ 0..=15, r @ 0..=15, s @ 0..=15] => Some(p * 4096 + q * 256 + r * 16 + s),

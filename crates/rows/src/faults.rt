@@ -1,4 +1,10 @@
-//! What is wrong with a body, by the layer that finds it.
+//! What is wrong with a body, by the layer that finds it: in words, and as number, layer and place.
+
+ghost use Rattle.std.specs.Prelude.{◌≡◌};
+
+use fault::{FaultCode, Layer};
+use std::error::Error;
+use std::fmt;
 
 /// Found by the row search.
 #[derive(Clone, Copy, Debug, PartialEq, Eq)]
@@ -17,3 +23,71 @@ pub enum PacketFault {
     /// What the row search found.
     Row(RowFault),
 }
+
+impl From<RowFault> for PacketFault {
+    ghost use Rattle.rows.specs.declared.faults.PacketFault.TheVariants.{Row};
+
+    ghost from_gives = { λ e r. r ≡ Row e };
+
+    fn from(fault: RowFault) -> PacketFault {
+        Self::Row(fault)
+    }
+}
+
+impl From<RowFault> for FaultCode {
+    ghost use Rattle.rows.specs.Search.{row_code};
+
+    ghost from_gives = { λ fault code. code ≡ row_code fault };
+
+    fn from(fault: RowFault) -> FaultCode {
+        let (number, place) = match fault {
+            RowFault::NoSuchCode => (6, 2),
+            RowFault::NoSuchOperands => (7, 4),
+        };
+        FaultCode {
+            number,
+            layer: Layer::Row,
+            place,
+        }
+    }
+}
+
+// A row's fault is passed on whole.
+impl From<PacketFault> for FaultCode {
+    ghost use Rattle.rows.specs.Requests.{packet_code};
+
+    ghost from_gives = { λ fault code. code ≡ packet_code fault };
+
+    fn from(fault: PacketFault) -> FaultCode {
+        match fault {
+            PacketFault::UnknownBody => FaultCode {
+                number: 5,
+                layer: Layer::Packet,
+                place: 1,
+            },
+            PacketFault::Row(fault) => fault.into(),
+        }
+    }
+}
+
+impl fmt::Display for RowFault {
+    fn fmt<W: fmt::Write>(&self, f: &mut fmt::Formatter<W>) -> fmt::Result {
+        f.write_str(match self {
+            RowFault::NoSuchCode => "no row has this category and code",
+            RowFault::NoSuchOperands => "no row admits these operands",
+        })
+    }
+}
+
+impl fmt::Display for PacketFault {
+    fn fmt<W: fmt::Write>(&self, f: &mut fmt::Formatter<W>) -> fmt::Result {
+        match self {
+            PacketFault::UnknownBody => f.write_str("neither a command nor an inquiry"),
+            PacketFault::Row(fault) => write!(f, "{fault}"),
+        }
+    }
+}
+
+impl Error for RowFault {}
+
+impl Error for PacketFault {}

@@ -30,7 +30,8 @@ fn fault<R: Row>(rows: &[R], body: &Body<'_>) -> RowFault
 // The first row that admits a body, by its place, with what it makes of it; or what is wrong with the body.
 #[inline(always)]
 fn search<R: Row>(rows: &[R], body: &Body<'_>) -> Result<(usize, R::Meaning), RowFault>
-    ensures { result ≡ ok_or (first_of (admits R.Row body.now) rows.now) (fault_of (list_any (covers R.Row body.now) rows.now)) }
+    ensures { result ≡ ok_or (first_of (admits R.Row body.now) rows.now)
+        (fault_of (list_any (covers R.Row body.now) rows.now)) }
 {
     // A loop: nothing is made for a row that has another category or code, not even an empty answer.
     for (i, row) in rows.iter().enumerate() {

@@ -7,8 +7,7 @@ use crate::codes::Codes::{Levels, Modes, One};
 use crate::faults::RowFault;
 use crate::find::find_row;
 use crate::inquiry::Inquiry;
-use crate::operands::OperandForm;
-use crate::table::{TableRow, row};
+use crate::table::{OperandForm, TableRow, row};
 use head::Setting;
 use head::Setting::{Focus, Identity, Pan, Power, Zoom};
 

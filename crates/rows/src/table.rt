@@ -1,10 +1,22 @@
-//! Rows as both tables have them.
+//! Rows as both tables have them: a category, codes, and the form of the operands behind them.
 
-ghost use Rattle.rows.specs.Rows.{row_has, row_reads};
+ghost use Rattle.std.specs.Prelude.{◌≡◌, ℕ, List, Option};
+ghost use Rattle.head.specs.declared.setting.Setting.{Setting as S};
 
 use crate::codes::Codes;
-use crate::operands::OperandForm;
 use crate::row::{Body, Row};
+use head::Setting;
+
+/// A form of operands, with what it makes of them.
+pub trait OperandForm {
+    type Meaning: Drop;
+
+    ghost makes: { Self → S → List ℕ → Option Self.Meaning };
+
+    /// What operands mean, where their code stands for a setting; nothing if they have another form.
+    fn read(&self, setting: Setting, operands: &[u8]) -> Option<Self::Meaning>
+        ensures { result ≡ makes self.now setting operands.now };
+}
 
 /// A row of a table, by the form of its operands.
 #[derive(Clone, Copy, Debug, PartialEq, Eq)]
@@ -28,6 +40,8 @@ macro_rules! row {
 pub(crate) use row;
 
 impl<F: OperandForm> Row for TableRow<F> {
+    ghost use Rattle.rows.specs.Rows.{row_has, row_reads};
+
     type Meaning = F::Meaning;
 
     ghost has = { row_has };
