@@ -1,9 +1,10 @@
 -- What the modes forbid. A command goes by its row, the setting that its code stands for, by that setting's number n.
-use Rattle.std.specs.Prelude.{ℕ, Bool, false, not, ◌&&◌, ◌||◌, [], ◌∷◌, ℤ, ◌==◌, nat_le}
+use Rattle.std.specs.Prelude.{◌≡◌, ℕ, Bool, false, not, ◌&&◌, ◌||◌, List, [], ◌∷◌, ℤ, ◌==◌, nat_le}
+use Rattle.std.specs.List.{list_any}
 use Rattle.std.specs.Option.{option_map_or}
 use Rattle.head.specs.declared.order.Order.{Order}
 use Rattle.head.specs.declared.setting.Setting.{Setting}
-use Rattle.head.specs.declared.setting.Setting.TheVariants.{Power, FocusMode, WhiteBalance, ExposureMode, Freeze}
+use Rattle.head.specs.declared.setting.Setting.TheVariants.{Power, Zoom, ZoomDrive, FocusMode, Focus, FocusDrive, WhiteBalance, RedGain, BlueGain, ExposureMode, Shutter, Iris, Gain, Bright, Freeze, Mute, Infrared, Identity, Pan, Tilt, PanDrive, TiltDrive}
 use Rattle.head.specs.Cases.{first_case}
 use Rattle.head.specs.Orders.{parts, wants, any_pan_tilt}
 use Rattle.head.specs.Settings.{number, has_value}
@@ -52,3 +53,61 @@ forbidden_by f pantilt powering row o =
     powering
     || forbids (modes_of f) (number row) o
     || (not pantilt && any_pan_tilt (parts o.targets))
+
+-- Row by row.
+
+abbrev pub power_off : (Setting → ℤ) → Bool
+power_off f = has_value (f Power) 3
+
+abbrev pub freeze_on : (Setting → ℤ) → Bool
+freeze_on f = has_value (f Freeze) 2
+
+abbrev pub manual_focus : (Setting → ℤ) → Bool
+manual_focus f = has_value (f FocusMode) 3
+
+abbrev pub manual_balance : (Setting → ℤ) → Bool
+manual_balance f = has_value (f WhiteBalance) 5
+
+abbrev pub manual_exposure : (Setting → ℤ) → Bool
+manual_exposure f = has_value (f ExposureMode) 3
+
+abbrev pub shutter_mode : (Setting → ℤ) → Bool
+shutter_mode f = has_value (f ExposureMode) 10
+
+abbrev pub iris_mode : (Setting → ℤ) → Bool
+iris_mode f = has_value (f ExposureMode) 11
+
+abbrev pub bright_mode : (Setting → ℤ) → Bool
+bright_mode f = has_value (f ExposureMode) 13
+
+-- the modes that forbid a command of each row: power is off, freeze is on, or a mode that it needs is another. (Tilt and its drive
+-- are no rows: no code stands for them.)
+abbrev pub against : (Setting → ℤ) → Order → Setting → List Bool
+against f o Power = []
+against f o Zoom = power_off f ∷ []
+against f o ZoomDrive = power_off f ∷ []
+against f o FocusMode = power_off f ∷ []
+against f o Focus = power_off f ∷ not (manual_focus f) ∷ []
+against f o FocusDrive = power_off f ∷ not (manual_focus f) ∷ []
+against f o WhiteBalance = power_off f ∷ freeze_on f ∷ []
+against f o RedGain = power_off f ∷ freeze_on f ∷ not (manual_balance f) ∷ []
+against f o BlueGain = power_off f ∷ freeze_on f ∷ not (manual_balance f) ∷ []
+against f o ExposureMode = power_off f ∷ freeze_on f ∷ ((manual_exposure f || iris_mode f) && to_get o ExposureMode 13) ∷ []
+against f o Shutter = power_off f ∷ freeze_on f ∷ not (manual_exposure f || shutter_mode f) ∷ []
+against f o Iris = power_off f ∷ freeze_on f ∷ not (manual_exposure f || iris_mode f) ∷ []
+against f o Gain = power_off f ∷ freeze_on f ∷ not (manual_exposure f) ∷ []
+against f o Bright = power_off f ∷ freeze_on f ∷ not (bright_mode f) ∷ []
+against f o Freeze = power_off f ∷ []
+against f o Mute = power_off f ∷ []
+against f o Infrared = power_off f ∷ freeze_on f ∷ []
+against f o Identity = power_off f ∷ []
+against f o Pan = power_off f ∷ []
+against f o Tilt = power_off f ∷ []
+against f o PanDrive = power_off f ∷ []
+against f o TiltDrive = power_off f ∷ []
+
+-- a command is forbidden while power is being switched on, by a mode against its row, and where it names pan or tilt and there are none;
+-- and otherwise it is not
+abbrev pub ModesRowByRow : Type 0
+ModesRowByRow = (f : Setting → ℤ) (pantilt powering : Bool) (row : Setting) (o : Order) →
+    forbidden_by f pantilt powering row o ≡ (powering || list_any (λ b. b) (against f o row) || (not pantilt && any_pan_tilt (parts o.targets)))

@@ -1,7 +1,7 @@
 //! The rules of the ring: what becomes of a whole packet, the first rule that fits.
 
-ghost use Rattle.std.specs.Prelude.{◌≡◌};
-ghost use Rattle.rules.specs.Ring.{rule_number, address_set, clears_all, for_this_end, rule_of, Bounded};
+ghost use Rattle.std.specs.Prelude.{◌≡◌, is_some};
+ghost use Rattle.rules.specs.Ring.{offers_address, rule_number, address_set, clears_all, for_this_end, rule_of, Bounded, Meets};
 ghost use Rattle.wire.specs.Framing.{bytes_of};
 
 use wire::Packet;
@@ -30,7 +30,8 @@ const FOR_ALL: u8 = 0x88;
 
 // The address that a packet sets, from 1 to 7.
 fn address_in(bytes: &[u8]) -> Option<u8>
-    ensures { result ≡ address_set bytes.now }
+    ensures address { result ≡ address_set bytes.now }
+    ensures offered { is_some result ≡ offers_address bytes.now }
 {
     match bytes {
         [FOR_ALL, 0x30, w @ 1..=7, 0xff] => Some(*w),
@@ -76,6 +77,7 @@ impl Rule {
     pub fn of(address: u8, packet: &Packet) -> Rule
         ensures first { result ≡ rule_of address (bytes_of packet.now) }
         ensures bounded { Bounded result }
+        ensures meets { Meets address (bytes_of packet.now) result }
     {
         let header = packet.header();
         if address != 0 && header / 16 % 8 == address {

@@ -1,0 +1,3 @@
+pub mod Ruled
+pub mod Becoming
+pub mod ByRow
