@@ -2,7 +2,7 @@
 
 ghost use Rattle.std.specs.Prelude.{◌≡◌, ◌≤◌, length, if◌then◌else◌, Some, None, nat_le};
 ghost use Rattle.rules.specs.Replies.{problem_code, ending_reply, packet};
-ghost use Rattle.wire.specs.Line.{over_at};
+ghost use Rattle.wire.specs.Line.{over_if_room, count_if_room};
 
 use head::Ending;
 use wire::{Bytes, send_at};
@@ -66,8 +66,8 @@ impl Reply {
     /// left as it is.
     #[inline]
     pub fn send(self, header: u8, out: &mut [u8]) -> Option<usize>
-        ensures next { result ≡ (if nat_le (length (packet header self)) (length out.old) then Some (length (packet header self)) else None) }
-        ensures sent { out.new ≡ (if nat_le (length (packet header self)) (length out.old) then over_at 0 (packet header self) out.old else out.old) }
+        ensures count { result ≡ count_if_room (packet header self) out.old }
+        ensures sent { out.new ≡ over_if_room (packet header self) out.old }
     {
         match self {
             Reply::Acknowledgement(y) => send_at(out, 0, &[header, 0x40 + y % 16, 0xff]),

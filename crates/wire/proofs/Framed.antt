@@ -1,5 +1,5 @@
 -- Every packet is framed, and every FF finds the line again.
-use Rattle.std.proofs.Common.{◌≡◌, ℕ, ◌+◌, ◌≤◌, true, List, [], ◌∷◌, ◌++◌, length, refl, append_assoc, arith, length-append}
+use Rattle.std.proofs.Common.{◌≡◌, ℕ, ◌+◌, ◌≤◌, true, List, [], ◌∷◌, ◌++◌, length, Some, Ok, refl, append_assoc, arith, length-append}
 use Rattle.std.proofs.lemmas.Grind.{common_steps}
 use Rattle.wire.specs.Framing.{Held, none, begun, skipping, held_after}
 use Rattle.wire.specs.Packets.{closes}
@@ -9,7 +9,7 @@ use Rattle.wire.specs.Theorems.{after, events, at_last, EveryPacketIsFramed, The
 -- from the front of a packet on, its rest
 record Rest (front rest : List ℕ) : Type 0 where
   left : after (begun front) rest ≡ none
-  told : events (begun front) rest ≡ at_last (front ++ rest) rest
+  told : events (begun front) rest ≡ at_last (Ok (Some (front ++ rest))) rest
 
 rests : (front rest : List ℕ) → closes rest ≡ true → 1 ≤ length front → 3 ≤ length front + length rest → length front + length rest ≤ 16 → Rest front rest
 rests front [] c s l m = cc

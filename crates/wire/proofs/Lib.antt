@@ -1,3 +1,4 @@
 pub mod Forms
 pub mod Framed
+pub mod Faulty
 pub mod Sent

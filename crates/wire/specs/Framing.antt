@@ -3,8 +3,8 @@ use Rattle.std.specs.Prelude.{ℕ, if◌then◌else◌, List, [], ◌∷◌, ◌
 use Rattle.fault.specs.Faults.{fault_code}
 use Rattle.fault.specs.declared.code.FaultCode.{FaultCode}
 use Rattle.fault.specs.declared.code.Layer.TheVariants.{Framing}
-use Rattle.wire.specs.declared.framer.FramingFault.{FramingFault}
-use Rattle.wire.specs.declared.framer.FramingFault.TheVariants.{NoHeader, NoBody, Overlong}
+use Rattle.wire.specs.declared.faults.FramingFault.{FramingFault}
+use Rattle.wire.specs.declared.faults.FramingFault.TheVariants.{NoHeader, NoBody, Overlong}
 use Rattle.wire.specs.declared.packet.Packet.{Packet}
 use Rattle.wire.specs.Packets.{is_header}
 

@@ -4,21 +4,13 @@ ghost use Rattle.std.specs.Prelude.{◌≡◌, ◌+◌, ◌<◌, ◌≤◌, [], 
 ghost use Rattle.wire.specs.Kept.{if_room};
 
 use crate::writer::send_at;
-use std::error::Error;
-use std::fmt;
 use std::marker::Model;
+use thiserror::Error;
 
 /// There is no room for so many bytes.
-#[derive(Clone, Copy, Debug, PartialEq, Eq)]
+#[derive(Clone, Copy, Debug, PartialEq, Eq, Error)]
+#[error("no room for so many bytes")]
 pub struct Full;
-
-impl fmt::Display for Full {
-    fn fmt<W: fmt::Write>(&self, f: &mut fmt::Formatter<W>) -> fmt::Result {
-        f.write_str("no room for so many bytes")
-    }
-}
-
-impl Error for Full {}
 
 /// At most 16 bytes in order. The room behind them holds 0, so that equal lists are equal values.
 #[derive(Clone, Copy, Debug, PartialEq, Eq)]

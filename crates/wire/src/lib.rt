@@ -7,15 +7,13 @@
 
 mod bytes;
 mod faults;
-mod feed;
 mod framer;
 mod packet;
-mod parts;
 pub mod theorems;
-mod words;
 mod writer;
 
 pub use bytes::{Bytes, Full};
-pub use framer::{Framer, FramingFault};
+pub use faults::FramingFault;
+pub use framer::Framer;
 pub use packet::Packet;
 pub use writer::send_at;
