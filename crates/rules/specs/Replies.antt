@@ -3,9 +3,9 @@ use Rattle.std.specs.Prelude.{◌≡◌, ℕ, ◌+◌, ◌-◌, ◌%◌, if◌th
 use Rattle.head.specs.declared.outcome.Ending.{Ending}
 use Rattle.head.specs.declared.outcome.Ending.TheVariants.{Done, Jammed}
 use Rattle.head.specs.Cases.{first_case}
-use Rattle.rules.specs.declared.read.UnknownCode.{UnknownCode}
-use Rattle.rules.specs.declared.read.Unread.{Unread}
-use Rattle.rules.specs.declared.read.Unread.TheVariants as unread
+use Rattle.rules.specs.declared.reply.UnknownCode.{UnknownCode}
+use Rattle.rules.specs.declared.reply.Unread.{Unread}
+use Rattle.rules.specs.declared.reply.Unread.TheVariants as unread
 use Rattle.rules.specs.declared.reply.Problem.{Problem}
 use Rattle.rules.specs.declared.reply.Problem.TheVariants.{Syntax, BufferFull, Cancelled, NoSocket, NotExecutable}
 use Rattle.rules.specs.declared.reply.Reply.{Reply}

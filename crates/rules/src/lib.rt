@@ -4,12 +4,10 @@
 #![tactic(auto)]
 
 mod modes;
-mod read;
 mod reply;
 mod ring;
 pub mod theorems;
 
 pub use modes::{forbidden, powers_on};
-pub use read::{UnknownCode, Unread};
-pub use reply::{Problem, Reply};
+pub use reply::{Problem, Reply, UnknownCode, Unread};
 pub use ring::Rule;

@@ -56,13 +56,9 @@ impl Modes {
             (6..=13 | 16, Modes { freeze: ON, .. }) => true,
             (4 | 5, Modes { focus, .. }) if focus != MANUAL => true,
             (7 | 8, Modes { white_balance, .. }) if white_balance != MANUAL_BALANCE => true,
-            (
-                9,
-                Modes {
-                    exposure: MANUAL | IRIS,
-                    ..
-                },
-            ) => order.target(Setting::ExposureMode) == Some(BRIGHT),
+            (9, Modes { exposure, .. }) if matches!(exposure, MANUAL | IRIS) => {
+                order.target(Setting::ExposureMode) == Some(BRIGHT)
+            }
             (10, Modes { exposure, .. }) if !matches!(exposure, MANUAL | SHUTTER) => true,
             (11, Modes { exposure, .. }) if !matches!(exposure, MANUAL | IRIS) => true,
             (12, Modes { exposure, .. }) if exposure != MANUAL => true,

@@ -79,6 +79,15 @@ impl Rule {
         ensures bounded { Bounded result }
         ensures meets { Meets address (bytes_of packet.now) result }
     {
+        Rule::first_that_fits(address, packet)
+    }
+
+    // The same, by the tests alone; what that means is said of it by `of`.
+    #[inline(always)]
+    fn first_that_fits(address: u8, packet: &Packet) -> Rule
+        ensures rule { result ≡ rule_of address (bytes_of packet.now) }
+        ensures bounded { Bounded result }
+    {
         let header = packet.header();
         if address != 0 && header / 16 % 8 == address {
             return Rule::TakenOff;
