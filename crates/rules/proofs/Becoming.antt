@@ -40,7 +40,7 @@ module _ (a : ℕ) (p : List ℕ) where
   sent_on : (RuleFits a p 1 → ⊥) → (RuleFits a p 2 → ⊥) → (RuleFits a p 3 → ⊥) → (RuleFits a p 5 → ⊥) → rule_of a p ≡ SentOn
   sent_on f₁ f₂ f₃ f₅ = let m = met a p in fourth_rule (rule_of a p) (but_fourth m.fits f₁ f₂ f₃ f₅)
 
-  but_fifth : {n : ℕ} → RuleFits a p n → (RuleFits a p 1 → ⊥) → (RuleFits a p 2 → ⊥) → (RuleFits a p 3 → ⊥) → (RuleFits a p 4 → ⊥) → n ≡ 5
+  pub but_fifth : {n : ℕ} → RuleFits a p n → (RuleFits a p 1 → ⊥) → (RuleFits a p 2 → ⊥) → (RuleFits a p 3 → ⊥) → (RuleFits a p 4 → ⊥) → n ≡ 5
   but_fifth (from_this_end l e) f₁ f₂ f₃ f₄ = absurd (f₁ (from_this_end l e))
   but_fifth (sets_an_address w l m e) f₁ f₂ f₃ f₄ = absurd (f₂ (sets_an_address w l m e))
   but_fifth (clears_every_end e) f₁ f₂ f₃ f₄ = absurd (f₃ (clears_every_end e))
@@ -49,24 +49,24 @@ module _ (a : ℕ) (p : List ℕ) where
   but_fifth (with_this_header l e) f₁ f₂ f₃ f₄ = refl
 
   -- what each rule says of the header
-  own : RuleFits a p 1 → (1 ≤ a) × (sender p ≡ a)
+  pub own : RuleFits a p 1 → (1 ≤ a) × (sender p ≡ a)
   own (from_this_end l e) = (l, e)
 
-  second : RuleFits a p 2 → header p ≡ 0x88
+  pub second : RuleFits a p 2 → header p ≡ 0x88
   second (sets_an_address w l m e) = ap (λ (q : List ℕ). get_or q 0 0) e
 
-  third : RuleFits a p 3 → header p ≡ 0x88
+  pub third : RuleFits a p 3 → header p ≡ 0x88
   third (clears_every_end e) = ap (λ (q : List ℕ). get_or q 0 0) e
 
   fifth : RuleFits a p 5 → (1 ≤ a) × (header p ≡ 0x80 + a)
   fifth (with_this_header l e) = (l, e)
 
-  fourth : RuleFits a p 4 → 1 ≤ a → header p ≢ 0x80 + a
+  pub fourth : RuleFits a p 4 → 1 ≤ a → header p ≢ 0x80 + a
   fourth (without_address e) l = absurd (omega arith)
   fourth (with_other_header e) l = e
 
   -- who speaks, and to whom, with the two headers that count
-  for_all : header p ≡ 0x88 → (sender p ≡ 0) × (is_broadcast p ≡ true)
+  pub for_all : header p ≡ 0x88 → (sender p ≡ 0) × (is_broadcast p ≡ true)
   for_all e = (rw e refl, rw e refl)
 
   mark : is_broadcast p ≡ false → header p / 8 % 2 ≡ 0
@@ -75,7 +75,7 @@ module _ (a : ℕ) (p : List ℕ) where
   marked : is_broadcast p ≡ true → header p / 8 % 2 ≡ 1
   marked t = eqb-true (header p / 8 % 2) 1 t
 
-  for_one : a ≤ 7 → header p ≡ 0x80 + a → (sender p ≡ 0) × (header p / 8 % 2 ≡ 0) × (receiver p ≡ a)
+  pub for_one : a ≤ 7 → header p ≡ 0x80 + a → (sender p ≡ 0) × (header p / 8 % 2 ≡ 0) × (receiver p ≡ a)
   for_one l e = (omega arith, omega arith, omega arith)
 
   header_is : 0x80 ≤ header p → header p ≤ 0xff → sender p ≡ 0 → header p / 8 % 2 ≡ 0 → receiver p ≡ a → header p ≡ 0x80 + a

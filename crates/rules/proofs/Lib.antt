@@ -1,3 +1,4 @@
 pub mod Ruled
 pub mod Becoming
 pub mod ByRow
+pub mod Ordered

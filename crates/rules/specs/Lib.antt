@@ -1,3 +1,4 @@
 pub mod Ring
 pub mod Modes
 pub mod Replies
+pub mod Orders

@@ -80,8 +80,8 @@ iris_mode f = has_value (f ExposureMode) 11
 abbrev pub bright_mode : (Setting → ℤ) → Bool
 bright_mode f = has_value (f ExposureMode) 13
 
--- the modes that forbid a command of each row: power is off, freeze is on, or a mode that it needs is another. (Tilt and its drive
--- are no rows: no code stands for them.)
+-- the modes that forbid a command of each row: power is off, freeze is on, or a mode that it needs is another. (Tilt and
+-- its drive are no rows: no code stands for them.)
 abbrev pub against : (Setting → ℤ) → Order → Setting → List Bool
 against f o Power = []
 against f o Zoom = power_off f ∷ []
@@ -106,8 +106,9 @@ against f o Tilt = power_off f ∷ []
 against f o PanDrive = power_off f ∷ []
 against f o TiltDrive = power_off f ∷ []
 
--- a command is forbidden while power is being switched on, by a mode against its row, and where it names pan or tilt and there are none;
--- and otherwise it is not
+-- a command is forbidden while power is being switched on, by a mode against its row, and where it names pan or tilt and
+-- there are none; and otherwise it is not
 abbrev pub ModesRowByRow : Type 0
 ModesRowByRow = (f : Setting → ℤ) (pantilt powering : Bool) (row : Setting) (o : Order) →
-    forbidden_by f pantilt powering row o ≡ (powering || list_any (λ b. b) (against f o row) || (not pantilt && any_pan_tilt (parts o.targets)))
+    forbidden_by f pantilt powering row o
+    ≡ (powering || list_any (λ b. b) (against f o row) || (not pantilt && any_pan_tilt (parts o.targets)))

@@ -50,7 +50,11 @@ as_error y (Err e) = Err (unread.Error y e)
 abbrev pub reply_of : List ℕ → Result Reply Unread
 reply_of [] = Err unread.Form
 reply_of (b ∷ []) =
-    if nat_le 0x40 b && nat_le b 0x4f then Ok (Acknowledgement (b - 0x40)) else (if nat_le 0x50 b && nat_le b 0x5f then Ok (Completion (b - 0x50)) else Err unread.Form)
+    first_case (
+    (nat_le 0x40 b && nat_le b 0x4f, Ok (Acknowledgement (b - 0x40)))
+    ∷ (nat_le 0x50 b && nat_le b 0x5f, Ok (Completion (b - 0x50)))
+    ∷ []
+    ) (Err unread.Form)
 reply_of (b ∷ c ∷ []) = if nat_le 0x60 b && nat_le b 0x6f then as_error (b - 0x60) (problem_of c) else Err unread.Form
 reply_of (b ∷ c ∷ d ∷ bs) = Err unread.Form
 

@@ -1,8 +1,11 @@
 //! What the definitions of this crate mean: statements that the check holds them to.
 
 ghost use Rattle.rules.specs.Modes.{ModesRowByRow};
+ghost use Rattle.rules.specs.Orders.{PacketsAreReadByTheirRow};
 ghost use Rattle.rules.specs.Replies.{RepliesReadBack};
 ghost use Rattle.rules.specs.Ring.{WhatBecomesOfPackets};
+
+use rows::theorems::{an_order_is_read_by_one_row, one_byte_off_is_no_order};
 
 /// A reply that is sent is read as itself, its socket being the low digit that is on the line.
 pub fn replies_read_back()
@@ -20,3 +23,13 @@ pub fn what_becomes_of_packets()
 pub fn modes_row_by_row()
     ensures { ModesRowByRow }
 {}
+
+/// A packet that the rules of the ring leave to the rows is read as an order exactly when one row admits its body, and
+/// then it is that row's order; every packet for an end that a row admits is left to them; and one with a byte more or
+/// less than its row has is read as none.
+pub fn packets_are_read_by_their_row()
+    ensures { PacketsAreReadByTheirRow }
+{
+    an_order_is_read_by_one_row();
+    one_byte_off_is_no_order();
+}

@@ -17,7 +17,9 @@ pub data Held : Type 0 where
 -- what a byte makes of it
 abbrev pub held_after : Held → ℕ → Held
 held_after none b = if is_header b then begun (b ∷ []) else none
-held_after (begun bs) b = if b == 0xff then none else (if length bs == 15 then skipping else begun (bs ++ b ∷ []))
+held_after (begun bs) b =
+    if b == 0xff then none
+    else (if length bs == 15 then skipping else begun (bs ++ b ∷ []))
 held_after skipping b = if b == 0xff then none else skipping
 
 -- what a byte tells: nothing, a whole packet, or a fault
@@ -27,7 +29,9 @@ Event = Result (Option (List ℕ)) FramingFault
 abbrev pub event : Held → ℕ → Event
 event none b = if is_header b then Ok None else Err NoHeader
 event (begun bs) b =
-    if b == 0xff then (if length bs == 1 then Err NoBody else Ok (Some (bs ++ b ∷ []))) else (if length bs == 15 then Err Overlong else Ok None)
+    if b == 0xff
+    then (if length bs == 1 then Err NoBody else Ok (Some (bs ++ b ∷ [])))
+    else (if length bs == 15 then Err Overlong else Ok None)
 event skipping b = Ok None
 
 -- each fault's number, layer and place

@@ -76,10 +76,12 @@ pub record FoundAfterFaults : Type 0 where
   -- with no packet begun, the next header begins one
   pub header : (h : ℕ) → is_header h ≡ true → held_after none h ≡ begun (h ∷ [])
   -- while the rest is skipped, nothing is told of any byte, and nothing but FF ends it
-  pub rest : (bs : List ℕ) → no_end bs ≡ true → (after skipping bs ≡ skipping) × (events skipping bs ≡ nothing_for bs)
+  pub rest : (bs : List ℕ) → no_end bs ≡ true →
+      (after skipping bs ≡ skipping) × (events skipping bs ≡ nothing_for bs)
   pub end : (held_after skipping 0xff ≡ none) × (event skipping 0xff ≡ Ok None)
   -- so the next packet is framed: right behind a fault that leaves none begun, and behind the rest and its FF
   pub next : (e : FramingFault) (bs p : List ℕ) → left_by e ≡ none → LeadsTo e bs → is_packet p ≡ true →
       events none (bs ++ p) ≡ at_last (Err e) bs ++ at_last (Ok (Some p)) p
   pub behind : (bs rest p : List ℕ) → LeadsTo Overlong bs → no_end rest ≡ true → is_packet p ≡ true →
-      events none (bs ++ (rest ++ 0xff ∷ []) ++ p) ≡ at_last (Err Overlong) bs ++ nothing_for (rest ++ 0xff ∷ []) ++ at_last (Ok (Some p)) p
+      events none (bs ++ (rest ++ 0xff ∷ []) ++ p)
+      ≡ at_last (Err Overlong) bs ++ nothing_for (rest ++ 0xff ∷ []) ++ at_last (Ok (Some p)) p
