@@ -43,6 +43,7 @@ fn log_call<H: Head>(end: &mut End<H>, call: Call, log: &mut [u8], count: usize)
 /// 16 bytes left in the log is refused, as with any short buffer.
 pub fn play<H: Head>(head: H, calls: &[Call], log: &mut [u8]) -> (End<H>, usize)
     ensures played { Played (meaning H.Look H.slots head) calls.now (length log.old) (take result.1 log.new) (state result.0) }
+    ensures within { result.1 ≤ length log.new }
     ensures untouched { drop result.1 log.new ≡ drop result.1 log.old }
 {
     let mut end = End::make(head);
