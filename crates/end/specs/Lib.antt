@@ -11,4 +11,5 @@ pub mod Law
 pub mod Played
 pub mod Ends
 pub mod Promises
+pub mod Exchanges
 pub mod Tried

@@ -1,76 +1,13 @@
--- Exchanges tried, runs that the book was tried on, and what the law does not let pass: the definitions held to their word.
-use Rattle.std.specs.Prelude.{◌≡◌, ℕ, true, List, [], ◌∷◌, ◌++◌, Some}
+-- Runs that the book was tried on, and what the law does not let pass: the definitions held to their word.
+use Rattle.std.specs.Prelude.{◌≡◌, ℕ, List, [], ◌∷◌, ◌++◌, Some}
 use Rattle.end.specs.declared.call.Call.TheVariants.{Byte, Tick, Open}
-use Rattle.end.specs.declared.socket.Sockets.{Sockets}
 use Rattle.end.specs.Book.{Entry, Seen, closed, working, book_fed}
-use Rattle.end.specs.Deeds.{sockets_after, both_idle}
+use Rattle.end.specs.Exchanges.{ack_1, ack_2, address_to, mute, zoom, zoom_stop}
 use Rattle.end.specs.Law.{SlotAgrees, WholePackets, InOrder, InTime}
-use Rattle.end.specs.Outcomes.{met}
 use Rattle.end.specs.Records.{entry}
-use Rattle.end.specs.Sockets.{both_closed}
 use Rattle.head.specs.declared.order.Order.{Order}
-use Rattle.head.specs.Meaning.{Meaning, idle, busy}
-use Rattle.head.specs.Settings.{about}
+use Rattle.head.specs.Meaning.{idle, busy}
 use Rattle.rows.specs.Requests.{read_as}
-use Rattle.rules.specs.Ring.{rule_of}
-
--- Packets at an end over a head with pan and tilt and first values; no tick comes between them, so that no setting changes.
-
-abbrev first : Meaning
-first = record { setting = λ s. (about s).first; pantilt = true; slots = both_idle }
-
-abbrev answers : ℕ → Sockets → List (List ℕ) → List (List ℕ)
-answers a k [] = []
-answers a k (p ∷ ps) = let o = met a first k p (rule_of a p) in o.sent ∷ answers o.address (sockets_after o.deed k) ps
-
--- an address to begin with, packets that come, and what is sent for each
-pub record Exchange : Type 0 where
-  pub address : ℕ
-  pub come : List (List ℕ)
-  pub sent : List (List ℕ)
-
-abbrev zoom : List ℕ
-zoom = 0x81 ∷ 0x01 ∷ 0x04 ∷ 0x47 ∷ 0x01 ∷ 0x00 ∷ 0x00 ∷ 0x00 ∷ 0xff ∷ []
-
-abbrev mute : List ℕ
-mute = 0x81 ∷ 0x01 ∷ 0x04 ∷ 0x75 ∷ 0x02 ∷ 0xff ∷ []
-
-abbrev zoom_stop : List ℕ
-zoom_stop = 0x81 ∷ 0x01 ∷ 0x04 ∷ 0x07 ∷ 0x00 ∷ 0xff ∷ []
-
--- the address w is asked for
-abbrev address_to : ℕ → List ℕ
-address_to w = 0x88 ∷ 0x30 ∷ w ∷ 0xff ∷ []
-
-abbrev exchange : ℕ → List (List ℕ) → List (List ℕ) → Exchange
-exchange a come sent = record { address = a; come = come; sent = sent }
-
-abbrev pub exchanges : List Exchange
-exchanges =
-    -- address 7 is set, and the next end is offered 8; 8 is no address, and is sent on
-    exchange 0 (address_to 7 ∷ []) (address_to 8 ∷ [])
-    ∷ exchange 0 (address_to 8 ∷ []) (address_to 8 ∷ [])
-    -- at the address that was set, an inquiry is answered: zoom, with 7 as sender
-    ∷ exchange 0 (address_to 7 ∷ (0x87 ∷ 0x09 ∷ 0x04 ∷ 0x47 ∷ 0xff ∷ []) ∷ []) (address_to 8 ∷ (0xf0 ∷ 0x50 ∷ 0 ∷ 0 ∷ 0 ∷ 0 ∷ 0xff ∷ []) ∷ [])
-    -- a zoom and a mute take both sockets, and a third command is refused
-    ∷ exchange 1 (zoom ∷ mute ∷ mute ∷ []) ((0x90 ∷ 0x41 ∷ 0xff ∷ []) ∷ (0x90 ∷ 0x42 ∷ 0xff ∷ []) ∷ (0x90 ∷ 0x60 ∷ 0x03 ∷ 0xff ∷ []) ∷ [])
-    -- a zoom stop displaces the zoom in socket 1, tells so, and is in socket 2
-    ∷ exchange 1 (zoom ∷ zoom_stop ∷ []) ((0x90 ∷ 0x41 ∷ 0xff ∷ []) ∷ (0x90 ∷ 0x61 ∷ 0x04 ∷ 0xff ∷ 0x90 ∷ 0x42 ∷ 0xff ∷ []) ∷ [])
-    -- a cancel of the zoom, and once more
-    ∷ exchange 1 (zoom ∷ (0x81 ∷ 0x21 ∷ 0xff ∷ []) ∷ (0x81 ∷ 0x21 ∷ 0xff ∷ []) ∷ [])
-    ((0x90 ∷ 0x41 ∷ 0xff ∷ []) ∷ (0x90 ∷ 0x61 ∷ 0x04 ∷ 0xff ∷ []) ∷ (0x90 ∷ 0x61 ∷ 0x05 ∷ 0xff ∷ []) ∷ [])
-    ∷ []
-
-abbrev exchanges_made : List Exchange → List (List (List ℕ))
-exchanges_made [] = []
-exchanges_made (x ∷ xs) = answers x.address both_closed x.come ∷ exchanges_made xs
-
-abbrev exchanges_wanted : List Exchange → List (List (List ℕ))
-exchanges_wanted [] = []
-exchanges_wanted (x ∷ xs) = x.sent ∷ exchanges_wanted xs
-
-abbrev pub TriedExchangesHold : Type 0
-TriedExchangesHold = exchanges_made exchanges ≡ exchanges_wanted exchanges
 
 -- The book.
 
@@ -107,12 +44,6 @@ pub record Reading : Type 0 where
 
 abbrev reading : List Part → ℕ → Seen → Seen → Reading
 reading ps a x y = record { parts = ps; address = a; one = x; two = y }
-
-abbrev ack_1 : List ℕ
-ack_1 = 0x90 ∷ 0x41 ∷ 0xff ∷ []
-
-abbrev ack_2 : List ℕ
-ack_2 = 0x90 ∷ 0x42 ∷ 0xff ∷ []
 
 -- address 1 is set, and a zoom is acknowledged in socket 1
 abbrev begun : List Part → List Part

@@ -1,8 +1,10 @@
 //! Exchanges and runs tried: statements that the check holds the definitions to.
 
-ghost use Rattle.end.specs.Tried.{TriedExchangesHold, TheBookReadsRuns, TheLawExcludes};
+ghost use Rattle.end.specs.Exchanges.{TriedExchangesHold};
+ghost use Rattle.end.specs.Tried.{TheBookReadsRuns, TheLawExcludes};
 
-/// Each exchange of a table is, by the written rules, answered as the table says.
+/// Of each packet of a table's exchanges comes, byte by byte and by the written rules, what the table says:
+/// the order that the head is given, the fault that is told, and the bytes that are sent.
 pub fn tried_exchanges_hold()
     ensures { TriedExchangesHold }
 {}

@@ -8,4 +8,4 @@ use Rattle.end.proofs.tried.tried_exchanges_hold.Goals as goal
 
 pub returns : goal.returns
 unfolding in_range read_command read_inquiry ranged
-returns c = refl
+returns c = record { power_on = refl; freeze_off = refl; as_told = (refl, refl, (refl, refl, (refl, refl, (refl, refl, (refl, refl, (refl, refl, (refl, refl, (refl, refl, (refl, refl, (refl, refl, (refl, refl, (refl, refl, (refl, refl, (refl, refl, (refl, refl, (refl, refl, tt)))))))))))))))) }
