@@ -43,7 +43,10 @@ equal_bytes (b ∷ bs) (d ∷ ds) = b == d && equal_bytes bs ds
 
 abbrev pub standing_after : Standing → ℕ → Standing
 standing_after between b = if nat_le 0x80 b && nat_lt b 0xff then inside (b ∷ []) else between
-standing_after (inside bs) b = if b == 0xff then between else (if nat_lt (length bs) 15 then inside (bs ++ b ∷ []) else skipping)
+standing_after (inside bs) b =
+    if b == 0xff
+    then between
+    else (if nat_lt (length bs) 15 then inside (bs ++ b ∷ []) else skipping)
 standing_after skipping b = if b == 0xff then between else skipping
 
 -- the packet that a byte makes whole: it has a header, a body, and FF
@@ -54,7 +57,10 @@ made_whole skipping b = None
 
 -- 88 30 0w FF sets the address to w, from 1 to 7
 abbrev pub sets_address : List ℕ → Bool
-sets_address p = equal_bytes p (0x88 ∷ 0x30 ∷ slice_index p 2 ∷ 0xff ∷ []) && nat_le 1 (slice_index p 2) && nat_le (slice_index p 2) 7
+sets_address p =
+    equal_bytes p (0x88 ∷ 0x30 ∷ slice_index p 2 ∷ 0xff ∷ [])
+    && nat_le 1 (slice_index p 2)
+    && nat_le (slice_index p 2) 7
 
 abbrev pub address_after : ℕ → List ℕ → ℕ
 address_after a p = if sets_address p then slice_index p 2 else a
@@ -137,7 +143,13 @@ one_tick_older closed = closed
 one_tick_older (working p n) = working p (n + 1)
 
 abbrev pub after_tick : Book → Book
-after_tick k = record { address = k.address; standing = k.standing; last = k.last; one = one_tick_older k.one; two = one_tick_older k.two }
+after_tick k = record {
+  address = k.address;
+  standing = k.standing;
+  last = k.last;
+  one = one_tick_older k.one;
+  two = one_tick_older k.two;
+}
 
 -- the book before what was sent is read: a byte is heard, and a tick adds to the counts
 abbrev pub before_replies : Book → Call → Book

@@ -26,8 +26,8 @@ pub data Deed : Type 0 where
 abbrev pub other : ℕ → ℕ
 other y = 3 - y
 
--- The head over a deed, by its own values: the calls that it goes through, in order, from x to x'. A head keeps to itself what makes
--- these relations hold, so that only the very calls show them.
+-- The head over a deed, by its own values: the calls that it goes through, in order, from x to x'. What a call is to a head
+-- only the head knows, so that only the very calls show these.
 
 -- by what a drop and a start are to the head
 pub record DropsBoth {H : Type 0} (drop : H → ℕ → H → Type 0) (x x' : H) : Type 0 where
@@ -43,7 +43,8 @@ pub record Starts {H : Type 0} (start : StartRelation H) (x : H) (y : ℕ) (o : 
   pub answer : Result (Unit {0}) Refusal
   pub started : start x y o answer x'
 
-pub record DropsAndStarts {H : Type 0} (drop : H → ℕ → H → Type 0) (start : StartRelation H) (x : H) (y : ℕ) (o : Order) (x' : H) : Type 0 where
+pub record DropsAndStarts {H : Type 0} (drop : H → ℕ → H → Type 0) (start : StartRelation H)
+    (x : H) (y : ℕ) (o : Order) (x' : H) : Type 0 where
   pub between : H
   pub dropped : drop x (other y) between
   pub starts : Starts start between y o x'

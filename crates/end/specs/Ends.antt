@@ -31,8 +31,10 @@ TakesOver {h = h} given x = HeadCalls h clears given x.head
 abbrev pub HandsBack : {H : Type 0} {h : HeadGhosts H} {l : LookGhosts H} → End H h l → H → Type 0
 HandsBack {h = h} x given = HeadCalls h clears x.head given
 
--- a tick: with the endings that the head told it is a step and keeps the law, and the head went through one tick, if there is room
-pub record Ticks {H : Type 0} {h : HeadGhosts H} {l : LookGhosts H} (x : End H h l) (old : List ℕ) (r : Result ℕ Fault) (new : List ℕ) (x' : End H h l) : Type 0 where
+-- a tick: with the endings that the head told it is a step and keeps the law, and if there is room the head went through
+-- this one tick
+pub record Ticks {H : Type 0} {h : HeadGhosts H} {l : LookGhosts H}
+    (x : End H h l) (old : List ℕ) (r : Result ℕ Fault) (new : List ℕ) (x' : End H h l) : Type 0 where
   pub endings : Endings
   pub step : Step (state x) (call_record Tick old r new endings) (state x')
   pub head : 16 ≤ length old → HeadOver (ticks endings) x x'
@@ -48,7 +50,8 @@ pub record Worked {H : Type 0} {h : HeadGhosts H} {l : LookGhosts H} (d : Deed) 
   pub held : x'.framer ≡ x.framer
 
 -- the outcome o came about, with framing f then, and its bytes are in front of a buffer
-pub record CameWith {H : Type 0} {h : HeadGhosts H} {l : LookGhosts H} (x : End H h l) (f : Held) (o : Outcome) (a : Answer) (old new : List ℕ) (x' : End H h l) : Type 0 where
+pub record CameWith {H : Type 0} {h : HeadGhosts H} {l : LookGhosts H}
+    (x : End H h l) (f : Held) (o : Outcome) (a : Answer) (old new : List ℕ) (x' : End H h l) : Type 0 where
   pub answer : a ≡ answer_of o
   pub sent : new ≡ over o.sent old
   pub head : HeadCalls h o.deed x.head x'.head
@@ -57,10 +60,12 @@ pub record CameWith {H : Type 0} {h : HeadGhosts H} {l : LookGhosts H} (x : End 
   pub held : x'.framer ≡ f
 
 -- of a whole packet, which leaves framing as it was
-abbrev pub CameOf : {H : Type 0} {h : HeadGhosts H} {l : LookGhosts H} → End H h l → Outcome → Answer → List ℕ → List ℕ → End H h l → Type 0
+abbrev pub CameOf : {H : Type 0} {h : HeadGhosts H} {l : LookGhosts H} →
+    End H h l → Outcome → Answer → List ℕ → List ℕ → End H h l → Type 0
 CameOf x o a old new x' = CameWith x x.framer o a old new x'
 
 -- a tick for which there is room, by the endings that the head told
-pub record TickCame {H : Type 0} {h : HeadGhosts H} {l : LookGhosts H} (x : End H h l) (n : ℕ) (old new : List ℕ) (x' : End H h l) : Type 0 where
+pub record TickCame {H : Type 0} {h : HeadGhosts H} {l : LookGhosts H}
+    (x : End H h l) (n : ℕ) (old new : List ℕ) (x' : End H h l) : Type 0 where
   pub endings : Endings
   pub came : CameOf x (ticked x.address endings) (counts n) old new x'

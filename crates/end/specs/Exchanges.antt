@@ -1,5 +1,5 @@
--- Packets tried, byte by byte at an end, and what the written rules make of them: the orders that the head is given, the faults that
--- are told, and the bytes that are sent.
+-- Packets tried, byte by byte at an end, and what the written rules make of them: the orders that the head is given, the
+-- faults that are told, and the bytes that are sent.
 use Rattle.std.specs.Prelude.{◌≡◌, ℕ, true, List, [], ◌∷◌, ◌++◌, pos, neg_ℤ, Some, None, Option}
 use Rattle.end.specs.declared.faults.Cause.{Cause}
 use Rattle.end.specs.Deeds.{Deed, nothing, clears, cancels, starts, displaces, ticks, sockets_after, both_idle}
@@ -20,7 +20,8 @@ use Rattle.head.specs.Settings.{about}
 use Rattle.rows.specs.Orders.{to, paces}
 use Rattle.wire.specs.Framing.{none, held_after}
 
--- a head with pan and tilt and first values: power is on, and freeze off. No tick comes between the bytes, so that no setting changes.
+-- a head with pan and tilt and first values: power is on, and freeze off. No tick comes between the bytes, so that no
+-- setting changes.
 abbrev first : Meaning
 first = record { setting = λ s. (about s).first; pantilt = true; slots = both_idle }
 
@@ -145,6 +146,42 @@ at_one ps = record { address = 1; packets = ps; leaves = 1 }
 abbrev moved : ℕ → List (List ℕ × Effects) → ℕ → Exchange
 moved a ps w = record { address = a; packets = ps; leaves = w }
 
+-- pan -5,120 with tilt 1,280
+abbrev pan_given : Effects
+pan_given =
+    gives 1 (to Pan (neg_ℤ (pos 5120)) ∷ to Tilt (pos 1280) ∷ to PanDrive (pos 0) ∷ to TiltDrive (pos 0) ∷ [])
+    (paces 0 24 20) ack_1
+
+-- at the address that was set, an inquiry is answered: zoom, with 7 as sender
+abbrev asked_at_seven : List (List ℕ × Effects)
+asked_at_seven =
+    (address_to 7, only_sends (address_to 8))
+    ∷ (0x87 ∷ 0x09 ∷ 0x04 ∷ 0x47 ∷ 0xff ∷ [], only_sends (0xf0 ∷ 0x50 ∷ 0 ∷ 0 ∷ 0 ∷ 0 ∷ 0xff ∷ []))
+    ∷ []
+
+-- a zoom and a mute take both sockets, and a third command is refused
+abbrev third_refused : List (List ℕ × Effects)
+third_refused =
+    (zoom, zoom_given 4)
+    ∷ (mute, gives 2 (to Mute (pos 2) ∷ []) (paces 0 0 0) ack_2)
+    ∷ (mute, only_sends (0x90 ∷ 0x60 ∷ 0x03 ∷ 0xff ∷ []))
+    ∷ []
+
+-- a zoom stop displaces the zoom in socket 1, tells so, and is in socket 2
+abbrev zoom_displaced : List (List ℕ × Effects)
+zoom_displaced =
+    (zoom, zoom_given 4)
+    ∷ (zoom_stop, gives 2 (to ZoomDrive (pos 0) ∷ []) (paces 0 0 0) (0x90 ∷ 0x61 ∷ 0x04 ∷ 0xff ∷ 0x90 ∷ 0x42 ∷ 0xff ∷ []))
+    ∷ []
+
+-- a cancel of the zoom, and once more
+abbrev cancelled_twice : List (List ℕ × Effects)
+cancelled_twice =
+    (zoom, zoom_given 4)
+    ∷ (0x81 ∷ 0x21 ∷ 0xff ∷ [], only_sends (0x90 ∷ 0x61 ∷ 0x04 ∷ 0xff ∷ []))
+    ∷ (0x81 ∷ 0x21 ∷ 0xff ∷ [], only_sends (0x90 ∷ 0x61 ∷ 0x05 ∷ 0xff ∷ []))
+    ∷ []
+
 abbrev pub exchanges : List Exchange
 exchanges =
     -- zoom 1000 without a speed is 4,096 at lens pace 4; with speed 2 it is 4,096 at pace 3
@@ -153,12 +190,11 @@ exchanges =
     -- zoom 4000 is admitted, and 4001 is not
     ∷ alone (zoom_to 4 0 0 0) (gives 1 (to Zoom (pos 16384) ∷ to ZoomDrive (pos 0) ∷ []) (paces 4 0 0) ack_1)
     ∷ alone (zoom_to 4 0 0 1) (tells (fault_code 7 layer.Row 4) syntax)
-    -- pan -5,120 with tilt 1,280 is admitted; a pan one below is not
-    ∷ alone (pan_to 0x0e 0x0c 0 0 (0xff ∷ []))
-    (gives 1 (to Pan (neg_ℤ (pos 5120)) ∷ to Tilt (pos 1280) ∷ to PanDrive (pos 0) ∷ to TiltDrive (pos 0) ∷ []) (paces 0 24 20) ack_1)
+    -- pan -5,120 is admitted, and a pan one below is not
+    ∷ alone (pan_to 0x0e 0x0c 0 0 (0xff ∷ [])) pan_given
     ∷ alone (pan_to 0x0e 0x0b 0x0f 0x0f (0xff ∷ [])) (tells (fault_code 7 layer.Row 4) syntax)
-    -- sixteen bytes that end in FF are whole, here of a row that has fewer operands; with another last byte they are too long, which is
-    -- not answered
+    -- sixteen bytes that end in FF are whole, here of a row that has fewer operands; with another last byte they are too
+    -- long, which is not answered
     ∷ alone (pan_to 0x0e 0x0c 0 0 (0x00 ∷ 0xff ∷ [])) (tells (fault_code 7 layer.Row 4) syntax)
     ∷ alone (pan_to 0x0e 0x0c 0 0 (0x00 ∷ 0x00 ∷ [])) (tells (fault_code 4 layer.Framing 15) [])
     -- address 7 is set, and the next end is offered 8; 8 is no address, and is sent on
@@ -166,31 +202,10 @@ exchanges =
     ∷ moved 1 ((address_to 8, only_sends (address_to 8)) ∷ []) 1
     ∷ moved 0 ((address_to 7, only_sends (address_to 8)) ∷ []) 7
     ∷ moved 0 ((address_to 8, only_sends (address_to 8)) ∷ []) 0
-    -- at the address that was set, an inquiry is answered: zoom, with 7 as sender
-    ∷ moved 0
-    (
-    (address_to 7, only_sends (address_to 8))
-    ∷ (0x87 ∷ 0x09 ∷ 0x04 ∷ 0x47 ∷ 0xff ∷ [], only_sends (0xf0 ∷ 0x50 ∷ 0 ∷ 0 ∷ 0 ∷ 0 ∷ 0xff ∷ []))
-    ∷ []
-    ) 7
-    -- a zoom and a mute take both sockets, and a third command is refused
-    ∷ at_one
-    ((zoom, zoom_given 4) ∷ (mute, gives 2 (to Mute (pos 2) ∷ []) (paces 0 0 0) ack_2) ∷ (mute, only_sends (0x90 ∷ 0x60 ∷ 0x03 ∷ 0xff ∷ [])) ∷ [])
-    -- a zoom stop displaces the zoom in socket 1, tells so, and is in socket 2
-    ∷ at_one
-    (
-    (zoom, zoom_given 4)
-    ∷ (zoom_stop, gives 2 (to ZoomDrive (pos 0) ∷ []) (paces 0 0 0) (0x90 ∷ 0x61 ∷ 0x04 ∷ 0xff ∷ 0x90 ∷ 0x42 ∷ 0xff ∷ []))
-    ∷ []
-    )
-    -- a cancel of the zoom, and once more
-    ∷ at_one
-    (
-    (zoom, zoom_given 4)
-    ∷ (0x81 ∷ 0x21 ∷ 0xff ∷ [], only_sends (0x90 ∷ 0x61 ∷ 0x04 ∷ 0xff ∷ []))
-    ∷ (0x81 ∷ 0x21 ∷ 0xff ∷ [], only_sends (0x90 ∷ 0x61 ∷ 0x05 ∷ 0xff ∷ []))
-    ∷ []
-    )
+    ∷ moved 0 asked_at_seven 7
+    ∷ at_one third_refused
+    ∷ at_one zoom_displaced
+    ∷ at_one cancelled_twice
     ∷ []
 
 abbrev AllAsTold : List Exchange → Type 0

@@ -113,4 +113,5 @@ EveryAcknowledgedCommandIsEnded =
 -- In any run, what a call sends is whole packets, at most two of them.
 abbrev pub WhatIsSentIsWholePackets : Type 0
 WhatIsSentIsWholePackets =
-    (m : Meaning) (h : List Record) (s : State) → Run m h s → (r : Record) (s' : State) → Step s r s' → WholePackets 2 r.fed.sent
+    (m : Meaning) (h : List Record) (s : State) → Run m h s →
+    (r : Record) (s' : State) → Step s r s' → WholePackets 2 r.fed.sent

@@ -1,10 +1,11 @@
 -- What is kept of a call: what the book is fed, and beside it what was answered and what the head told.
-use Rattle.std.specs.Prelude.{ℕ, List, [], ◌∷◌, ◌++◌, length, take, Result}
+use Rattle.std.specs.Prelude.{ℕ, Bool, List, [], ◌∷◌, ◌++◌, length, take, Result}
 use Rattle.end.specs.declared.call.Call.{Call}
 use Rattle.end.specs.declared.call.Call.TheVariants.{Byte, Tick, Open}
 use Rattle.end.specs.declared.faults.Fault.{Fault}
 use Rattle.end.specs.Book.{Book, Entry, book_fed}
-use Rattle.end.specs.Faults.{Answer, answered, count_told}
+use Rattle.end.specs.Deeds.{none_ended}
+use Rattle.end.specs.Faults.{Answer, opens, answered, count_told}
 use Rattle.head.specs.declared.outcome.Endings.{Endings}
 
 pub record Record : Type 0 where
@@ -22,6 +23,13 @@ record_of c n a sent e = record { fed = entry c n sent; answer = a; endings = e 
 -- the record of a call that was answered with r, on a buffer that held `old` and then holds `new`
 abbrev pub call_record : Call → List ℕ → Result ℕ Fault → List ℕ → Endings → Record
 call_record c old r new e = record_of c (length old) (answered r) (take (count_told r) new) e
+
+abbrev pub byte_record : ℕ → List ℕ → Result ℕ Fault → List ℕ → Record
+byte_record b old r new = call_record (Byte b) old r new none_ended
+
+-- the record of the question which sockets are open, by what it was answered
+abbrev pub open_record : Bool → Bool → Record
+open_record one two = record_of Open 0 (opens one two) [] none_ended
 
 -- Of calls one after the other; the newest record stands first.
 

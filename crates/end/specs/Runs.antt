@@ -14,7 +14,8 @@ pub data Run (m : Meaning) : List Record → State → Type 0 where
 -- the calls from state s to another, so that two lists of them may begin in any two states
 pub data Calls (s : State) : List Record → State → Type 0 where
   none : Calls s [] s
-  then : {h : List Record} {s' s'' : State} (r : Record) → Calls s h s' → Step s' r s'' → InRange s'' → Calls s (r ∷ h) s''
+  then : {h : List Record} {s' s'' : State} (r : Record) →
+      Calls s h s' → Step s' r s'' → InRange s'' → Calls s (r ∷ h) s''
 
 -- a run with calls behind it is a run
 abbrev pub RunsGoOn : Type 0

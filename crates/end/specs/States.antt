@@ -28,4 +28,5 @@ meaning l slots x = head.view l.setting l.pantilt slots x
 
 -- No model of End: its value would need a code, and for the settings, a function, the check finds none (`Coded (Setting → ℤ)`).
 abbrev pub state : {H : Type 0} {h : HeadGhosts H} {l : LookGhosts H} → End H h l → State
-state {h = h} {l = l} e = record { head = meaning l h.slots e.head; address = e.address; held = e.framer; sockets = e.sockets }
+state {h = h} {l = l} e =
+    record { head = meaning l h.slots e.head; address = e.address; held = e.framer; sockets = e.sockets }

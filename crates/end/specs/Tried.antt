@@ -49,6 +49,20 @@ reading ps a x y = record { parts = ps; address = a; one = x; two = y }
 abbrev begun : List Part → List Part
 begun ps = comes (address_to 1) (address_to 2) ∷ comes zoom ack_1 ∷ ps
 
+-- a clear with this header
+abbrev clear_at : ℕ → List ℕ
+clear_at header = header ∷ 0x01 ∷ 0x00 ∷ 0x01 ∷ 0xff ∷ []
+
+abbrev other_errors : List Part
+other_errors =
+    comes mute (0x90 ∷ 0x60 ∷ 0x03 ∷ 0xff ∷ [])
+    ∷ comes mute (0x90 ∷ 0x61 ∷ 0x05 ∷ 0xff ∷ [])
+    ∷ comes mute (0x90 ∷ 0x60 ∷ 0x41 ∷ 0xff ∷ [])
+    ∷ []
+
+abbrev said_by_others : List Part
+said_by_others = comes (clear_at 0x82) (clear_at 0x82) ∷ comes (0xa0 ∷ 0x51 ∷ 0xff ∷ []) (0xa0 ∷ 0x51 ∷ 0xff ∷ []) ∷ []
+
 abbrev pub readings : List Reading
 readings =
     reading [] 0 closed closed
@@ -60,25 +74,27 @@ readings =
     ∷ reading (begun (comes mute ack_2 ∷ ticks (0x90 ∷ 0x61 ∷ 0x41 ∷ 0xff ∷ []) ∷ [])) 1 closed (working mute 1)
     ∷ reading (begun (comes (0x81 ∷ 0x21 ∷ 0xff ∷ []) (0x90 ∷ 0x61 ∷ 0x04 ∷ 0xff ∷ []) ∷ [])) 1 closed closed
     -- an ending and an acknowledgement, read in turn
-    ∷ reading (begun (comes zoom_stop (0x90 ∷ 0x61 ∷ 0x04 ∷ 0xff ∷ 0x90 ∷ 0x42 ∷ 0xff ∷ []) ∷ [])) 1 closed (working zoom_stop 0)
+    ∷ reading (begun (comes zoom_stop (0x90 ∷ 0x61 ∷ 0x04 ∷ 0xff ∷ ack_2) ∷ [])) 1 closed (working zoom_stop 0)
     -- the counts rise before the packets of a tick are read
     ∷ reading (begun (ticks (0x90 ∷ 0x51 ∷ 0xff ∷ 0x90 ∷ 0x42 ∷ 0xff ∷ []) ∷ [])) 1 closed (working zoom 0)
     -- errors that are no endings
-    ∷ reading (begun (comes mute (0x90 ∷ 0x60 ∷ 0x03 ∷ 0xff ∷ []) ∷ comes mute (0x90 ∷ 0x61 ∷ 0x05 ∷ 0xff ∷ []) ∷ comes mute (0x90 ∷ 0x60 ∷ 0x41 ∷ 0xff ∷ []) ∷ [])) 1 (working zoom 0) closed
+    ∷ reading (begun other_errors) 1 (working zoom 0) closed
     -- the three clearings close both, whatever is sent
-    ∷ reading (begun (comes (0x81 ∷ 0x01 ∷ 0x00 ∷ 0x01 ∷ 0xff ∷ []) (0x90 ∷ 0x50 ∷ 0xff ∷ []) ∷ [])) 1 closed closed
-    ∷ reading (begun (comes (0x88 ∷ 0x01 ∷ 0x00 ∷ 0x01 ∷ 0xff ∷ []) (0x88 ∷ 0x01 ∷ 0x00 ∷ 0x01 ∷ 0xff ∷ []) ∷ [])) 1 closed closed
+    ∷ reading (begun (comes (clear_at 0x81) (0x90 ∷ 0x50 ∷ 0xff ∷ []) ∷ [])) 1 closed closed
+    ∷ reading (begun (comes (clear_at 0x88) (clear_at 0x88) ∷ [])) 1 closed closed
     ∷ reading (begun (comes (address_to 1) (address_to 2) ∷ [])) 1 closed closed
     -- a clear for another address is none, nor is what another camera says
-    ∷ reading (begun (comes (0x82 ∷ 0x01 ∷ 0x00 ∷ 0x01 ∷ 0xff ∷ []) (0x82 ∷ 0x01 ∷ 0x00 ∷ 0x01 ∷ 0xff ∷ []) ∷ comes (0xa0 ∷ 0x51 ∷ 0xff ∷ []) (0xa0 ∷ 0x51 ∷ 0xff ∷ []) ∷ [])) 1 (working zoom 0) closed
+    ∷ reading (begun said_by_others) 1 (working zoom 0) closed
     -- the packets sent are read by the address that was just set
-    ∷ reading (comes (address_to 1) (address_to 2) ∷ comes (address_to 2) (0xa0 ∷ 0x41 ∷ 0xff ∷ []) ∷ []) 2 (working (address_to 2) 0) closed
+    ∷ reading (comes (address_to 1) (address_to 2) ∷ comes (address_to 2) (0xa0 ∷ 0x41 ∷ 0xff ∷ []) ∷ [])
+    2 (working (address_to 2) 0) closed
     ∷ reading (comes (address_to 1) (address_to 2) ∷ comes (address_to 2) ack_1 ∷ []) 2 closed closed
     -- with no address there are no own packets
     ∷ reading (comes zoom (0x80 ∷ 0x41 ∷ 0xff ∷ []) ∷ []) 0 closed closed
     -- a packet that is too long is no packet, and the one behind it is read
     ∷ reading
-    (begun (comes (0x81 ∷ 0 ∷ 0 ∷ 0 ∷ 0 ∷ 0 ∷ 0 ∷ 0 ∷ 0 ∷ 0 ∷ 0 ∷ 0 ∷ 0 ∷ 0 ∷ 0 ∷ 0 ∷ 0xff ∷ []) ack_2 ∷ [])) 1 (working zoom 0) (working zoom 0)
+    (begun (comes (0x81 ∷ 0 ∷ 0 ∷ 0 ∷ 0 ∷ 0 ∷ 0 ∷ 0 ∷ 0 ∷ 0 ∷ 0 ∷ 0 ∷ 0 ∷ 0 ∷ 0 ∷ 0 ∷ 0xff ∷ []) ack_2 ∷ []))
+    1 (working zoom 0) (working zoom 0)
     ∷ []
 
 abbrev books : List Reading → List (ℕ × Seen × Seen)
@@ -101,7 +117,8 @@ pub record TheLawExcludes : Type 0 where
   pub three_packets : WholePackets 2 (ack_1 ++ ack_2 ++ ack_1) → ⊥
   pub second_acknowledgement : InOrder 1 1 zoom (ack_1 ∷ []) (working zoom 0) → ⊥
   pub ending_of_none : InOrder 1 1 zoom ((0x90 ∷ 0x51 ∷ 0xff ∷ []) ∷ []) closed → ⊥
-  pub ending_twice : InOrder 1 1 zoom ((0x90 ∷ 0x61 ∷ 0x04 ∷ 0xff ∷ []) ∷ (0x90 ∷ 0x51 ∷ 0xff ∷ []) ∷ []) (working zoom 0) → ⊥
+  pub ending_twice :
+      InOrder 1 1 zoom ((0x90 ∷ 0x61 ∷ 0x04 ∷ 0xff ∷ []) ∷ (0x90 ∷ 0x51 ∷ 0xff ∷ []) ∷ []) (working zoom 0) → ⊥
   pub thousand_ticks : InTime (working zoom 1000) → ⊥
   pub open_with_no_order : SlotAgrees (working zoom 0) idle → ⊥
   pub order_with_none_open : (o : Order) (n : ℕ) → SlotAgrees closed (busy o n) → ⊥

@@ -1,11 +1,10 @@
 //! The calls on an end: make, byte, tick, open, take off.
 
-ghost use Rattle.std.specs.Prelude.{◌≡◌, ◌<◌, ◌≤◌, [], length, take, drop, OnOk, IfErr};
+ghost use Rattle.std.specs.Prelude.{◌≡◌, ◌<◌, ◌≤◌, length, take, drop, OnOk, IfErr};
 ghost use Rattle.end.specs.Faults.{refused};
 ghost use Rattle.end.specs.Outcomes.{both_ended};
 ghost use Rattle.wire.specs.Line.{over};
 
-use crate::call::Call;
 use crate::deeds::idled;
 use crate::end::End;
 use crate::faults::{Cause, Fault};
@@ -48,11 +47,11 @@ fn tell(header: u8, endings: Endings, out: &mut [u8]) -> usize
 }
 
 impl<H: Head> End<H> {
-    ghost use Rattle.end.specs.Deeds.{Cleared, none_ended};
+    ghost use Rattle.end.specs.Deeds.{Cleared};
     ghost use Rattle.end.specs.Ends.{CameWith, HandsBack, HeadOver, TakesOver, TickCame, Ticks, head_of};
-    ghost use Rattle.end.specs.Faults.{answered, count_told, opens};
+    ghost use Rattle.end.specs.Faults.{answered, count_told};
     ghost use Rattle.end.specs.Law.{Keeps};
-    ghost use Rattle.end.specs.Records.{call_record, record_of};
+    ghost use Rattle.end.specs.Records.{byte_record, open_record};
     ghost use Rattle.end.specs.States.{meaning, state};
     ghost use Rattle.end.specs.Steps.{Made, Step, heard_in};
     ghost use Rattle.wire.specs.Framing.{held_after};
@@ -89,14 +88,14 @@ impl<H: Head> End<H> {
     /// end and head as they were.
     #[inline]
     pub fn byte(&mut self, byte: u8, out: &mut [u8]) -> Result<usize, Fault>
-        ensures step { Step (state self.old) (call_record (Call.Byte byte) out.old result out.new none_ended) (state self.new) }
+        ensures step { Step (state self.old) (byte_record byte out.old result out.new) (state self.new) }
 
         // The calls that the head went through are those of the byte's deed.
         ensures head { 16 ≤ length out.old → HeadOver (heard_in (state self.old) byte).deed self.old self.new }
         ensures refused { length out.old < 16 → self.new ≡ self.old }
         ensures untouched { drop (count_told result) out.new ≡ drop (count_told result) out.old }
         ensures within { count_told result ≤ length out.new }
-        ensures law { Keeps (state self.old) (call_record (Call.Byte byte) out.old result out.new none_ended) (state self.new) }
+        ensures law { Keeps (state self.old) (byte_record byte out.old result out.new) (state self.new) }
     {
         room(out)?;
         self.accept_byte(byte, out)
@@ -131,8 +130,8 @@ impl<H: Head> End<H> {
 
     /// Which sockets are open.
     pub fn open(&self) -> OpenSockets
-        ensures step { Step (state self.now) (record_of Call.Open 0 (opens result.one result.two) [] none_ended) (state self.now) }
-        ensures law { Keeps (state self.now) (record_of Call.Open 0 (opens result.one result.two) [] none_ended) (state self.now) }
+        ensures step { Step (state self.now) (open_record result.one result.two) (state self.now) }
+        ensures law { Keeps (state self.now) (open_record result.one result.two) (state self.now) }
     {
         self.sockets.open()
     }

@@ -98,7 +98,8 @@ impl<H: Head> End<H> {
     // A cancel of the command in the socket with this number.
     fn cancel(&mut self, number: u8, out: &mut [u8]) -> usize
         requires { 16 ≤ length out.old }
-        ensures { CameOf self.old (cancelled self.old.address self.old.sockets number) (counts result) out.old out.new self.new }
+        ensures { CameOf self.old (cancelled self.old.address self.old.sockets number)
+            (counts result) out.old out.new self.new }
     {
         match Which::numbered(number) {
             Some(which) if self.sockets.get(which).is_some() => {

@@ -32,7 +32,8 @@ fn log_call<H: Head>(end: &mut End<H>, call: Call, log: &mut [u8], count: usize)
     ensures within { count + result ≤ length log.new }
     ensures logged { take count log.new ≡ take count log.old }
     ensures untouched { drop (count + result) log.new ≡ drop (count + result) log.old }
-    ensures served { CallMade call (length log.old - count) (state end.old) (take result (drop count log.new)) (state end.new) }
+    ensures served { CallMade call (length log.old - count) (state end.old)
+        (take result (drop count log.new)) (state end.new) }
 {
     let (_, rest) = log.split_at_mut(count);
     serve(end, call, rest)
@@ -42,7 +43,8 @@ fn log_call<H: Head>(end: &mut End<H>, call: Call, log: &mut [u8], count: usize)
 /// packet. It hands back the end and the count of bytes logged. A byte or tick that finds less than
 /// 16 bytes left in the log is refused, as with any short buffer.
 pub fn play<H: Head>(head: H, calls: &[Call], log: &mut [u8]) -> (End<H>, usize)
-    ensures played { Played (meaning H.Look H.slots head) calls.now (length log.old) (take result.1 log.new) (state result.0) }
+    ensures played { Played (meaning H.Look H.slots head) calls.now (length log.old)
+        (take result.1 log.new) (state result.0) }
     ensures within { result.1 ≤ length log.new }
     ensures untouched { drop result.1 log.new ≡ drop result.1 log.old }
 {
