@@ -9,17 +9,15 @@ use Rattle.end.specs.Deeds.{DidHead, sockets_after, clears, starts, displaces, G
 use Rattle.end.specs.Outcomes.{Outcome, own_header, own, sends, does, taken, requested, cancelled}
 use Rattle.end.specs.Sockets.{finds_room, free, powering_in, socket_at}
 use Rattle.end.specs.States.{State}
-use Rattle.end.proofs.Asked.{told_plain}
 use Rattle.end.proofs.Heard.{Whole, whole}
 use Rattle.end.proofs.Ruled.{Foreign}
-use Rattle.end.proofs.Spoken.{Plain, Read, behind, said, read_none, read_own_other, read_foreign}
+use Rattle.end.proofs.Spoken.{Plain, plain_of, Read, behind, said, read_none, read_own_other, read_foreign}
 use Rattle.end.proofs.Tied.{Tied, rests, works, After, after_read, after_owns}
 use Rattle.head.specs.declared.order.Order.{Order}
 use Rattle.head.specs.declared.setting.Setting.{Setting}
 use Rattle.head.specs.declared.setting.Setting.TheVariants.{Pan}
 use Rattle.head.specs.Meaning.{Meaning, Slot, Slots, idle, busy, order_in, reason, refusal, in_use, Holds}
 use Rattle.head.specs.Orders.{parts, all_in_range, any_pan_tilt}
-use Rattle.head.specs.Settings.{Small}
 use Rattle.rows.specs.declared.faults.PacketFault.{PacketFault}
 use Rattle.rows.specs.declared.inquiry.Form.{Form}
 use Rattle.rows.specs.declared.inquiry.Form.TheVariants.{Digit, Level, Number, PanTilt}
@@ -29,6 +27,7 @@ use Rattle.rows.specs.declared.request.Request.TheVariants.{Command, Ask}
 use Rattle.rows.specs.Answers as inquiry
 use Rattle.rows.specs.Orders.{order_of, subject}
 use Rattle.rows.specs.Requests.{order_asked, read_as, read_body}
+use Rattle.rows.proofs.AnswerBytes.{answer_no_end}
 use Rattle.rows.proofs.Ranged.{body_in_range}
 use Rattle.rules.specs.declared.reply.Problem.TheVariants.{Syntax, BufferFull, Cancelled as CancelledCommand, NoSocket, NotExecutable}
 use Rattle.rules.specs.declared.reply.Reply.{Reply}
@@ -235,20 +234,20 @@ module _ (f : Setting → ℤ) (pt : Bool) (a : ℕ) (p sent : List ℕ) (s' : S
     told_other Number q = (refl, refl)
     told_other PanTilt q = pan_tilt_other pt
 
-    inquire : {l₁ l₂ : Seen} {x₁ x₂ : Option Order} {c₁ c₂ : Slot} (q : Inquiry) → ((t : Setting) → Small (f t)) → Tied l₁ x₁ c₁ → Tied l₂ x₂ c₂ →
+    inquire : {l₁ l₂ : Seen} {x₁ x₂ : Option Order} {c₁ c₂ : Slot} (q : Inquiry) → Tied l₁ x₁ c₁ → Tied l₂ x₂ c₂ →
         Done (sends a (inquiry.answer_packet (own_header a) q f pt)) x₁ x₂ c₁ c₂ → After a p l₁ l₂ sent f s'
-    inquire {l₁} {l₂} q small t₁ t₂ d =
+    inquire {l₁} {l₂} q t₁ t₂ d =
         let t = inquiry.answer_body q.form f q.setting pt in
-        let plain = told_plain f pt small q.form q.setting in
+        let plain = plain_of t (answer_no_end q f pt) in
         quiet (own_header a ∷ (t ++ 0xff ∷ []))
         (read_own_other a 1 p t l₁ low has plain (told_other q.form q.setting).0)
         (read_own_other a 2 p t l₂ low has plain (told_other q.form q.setting).1) t₁ t₂ d
 
     -- any other body
-    pub request : {l₁ l₂ : Seen} {x₁ x₂ : Option Order} {c₁ c₂ : Slot} (r : Result Request PacketFault) → read_body (body_of p) ≡ r → ((t : Setting) → Small (f t)) → Tied l₁ x₁ c₁ → Tied l₂ x₂ c₂ →
+    pub request : {l₁ l₂ : Seen} {x₁ x₂ : Option Order} {c₁ c₂ : Slot} (r : Result Request PacketFault) → read_body (body_of p) ≡ r → Tied l₁ x₁ c₁ → Tied l₂ x₂ c₂ →
         Done (requested a (head_of c₁ c₂) (both x₁ x₂) r) x₁ x₂ c₁ c₂ → After a p l₁ l₂ sent f s'
-    request {x₁ = x₁} {x₂ = x₂} (Ok (Command place c)) e small t₁ t₂ d =
+    request {x₁ = x₁} {x₂ = x₂} (Ok (Command place c)) e t₁ t₂ d =
         let o = order_of c in
         command (forbidden_by f pt (powering_in (both x₁ x₂)) (subject c) o) (subject c) o (ap order_asked e) (body_in_range (body_of p) place c e) refl t₁ t₂ d
-    request (Ok (Ask q)) e small t₁ t₂ d = inquire q small t₁ t₂ d
-    request (Err f) e small t₁ t₂ d = replied (Error 0 Syntax) refl refl t₁ t₂ (record { packets = d.packets; head = d.head; sockets = d.sockets })
+    request (Ok (Ask q)) e t₁ t₂ d = inquire q t₁ t₂ d
+    request (Err f) e t₁ t₂ d = replied (Error 0 Syntax) refl refl t₁ t₂ (record { packets = d.packets; head = d.head; sockets = d.sockets })

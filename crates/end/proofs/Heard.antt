@@ -3,8 +3,8 @@ use Rattle.std.proofs.Common.{◌≡◌, ℕ, ◌+◌, ◌<◌, ◌≤◌, Bool,
 use Rattle.std.proofs.lemmas.Bool.{eqb-true, eqb-false, ne_eqb, ltb-true, ltb-false, leb-true, lt-ltb, le-ltb, le-leb, lt-leb, and_parts}
 use Rattle.end.specs.Book.{Standing, between, inside, skipping, standing_after, made_whole}
 use Rattle.end.proofs.Spoken.{Plain, plain_push, packet_of}
-use Rattle.wire.specs.declared.framer.FramingFault.{FramingFault}
-use Rattle.wire.specs.declared.framer.FramingFault.TheVariants.{NoBody, Overlong}
+use Rattle.wire.specs.declared.faults.FramingFault.{FramingFault}
+use Rattle.wire.specs.declared.faults.FramingFault.TheVariants.{NoBody, Overlong}
 use Rattle.wire.specs.Framing as end
 use Rattle.wire.specs.Packets.{is_header, is_packet}
 

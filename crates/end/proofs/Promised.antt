@@ -191,7 +191,7 @@ a_cancel_is_never_refused m h s r y number p n at st x =
     let c₄ : U (Cancelled y) = subst U (cancel_rule z i.low has number) c₃ in
     let V : Bool → Type 0 = λ t. Came s none (cond t (does z (cancels y) (own z (Error y CancelledCommand))) (sends z (own z (Error y NoSocket)))) (come x) x.after in
     let c : V true = subst V (open_at number k s p n i at) c₄ in
-    let after = (goes k s (come x) x.after (in_range_in r) i x.step).inv in
+    let after = (goes k s (come x) x.after i x.step).inv in
     record {
       answer = c.answer ∙ ap (λ (q : List ℕ). counts (length q)) (reply_length number z);
       ending = c.packets ∙ reply_length number z;

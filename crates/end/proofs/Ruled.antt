@@ -1,5 +1,5 @@
 -- The book takes a whole packet for a clearing, and for one that sets the address, exactly where the rules of the ring do.
-use Rattle.std.proofs.Common.{◌≡◌, ℕ, suc, ◌+◌, ◌-◌, ◌/◌, ◌%◌, ◌≤◌, Bool, true, false, cond, not, ◌&&◌, ◌||◌, eqb, ltb, leb, List, [], ◌∷◌, ◌++◌, length, get_or, Some, None, sym, refl, ap, ◌∙◌, subst, inl, inr, append_assoc, arith}
+use Rattle.std.proofs.Common.{◌≡◌, ℕ, suc, ◌+◌, ◌-◌, ◌/◌, ◌%◌, ◌≤◌, Bool, true, false, cond, not, ◌&&◌, ◌||◌, eqb, ltb, leb, List, [], ◌∷◌, ◌++◌, length, get_or, sym, refl, ap, ◌∙◌, subst, inl, inr, append_assoc, arith}
 use Rattle.std.proofs.Math.Dec.{eqb-suc-suc}
 use Rattle.std.proofs.lemmas.List.{get_or_at, take_at, length_push}
 use Rattle.std.proofs.lemmas.Bool.{eqb-true, eqb-false, eq-eqb, ne_eqb, lt-ltb, leb-true, and_parts, and_left, and_right, or_parts, or_cases, not-true, not-false}
@@ -7,7 +7,7 @@ use Rattle.end.specs.Book.{equal_bytes, sets_address, address_after, clearing}
 use Rattle.end.proofs.Heard.{Whole, whole}
 use Rattle.rules.specs.declared.ring.Rule.{Rule}
 use Rattle.rules.specs.declared.ring.Rule.TheVariants.{TakenOff, AddressSet, ClearedForAll, SentOn, Cleared, Cancelled, Requested}
-use Rattle.rules.specs.Ring.{stand_at, are, sender, else_rule, rule_of}
+use Rattle.rules.specs.Ring.{stand_at, are, sender, rule_of}
 use Rattle.wire.specs.Packets.{body_of}
 
 -- The two ways to say that bytes are the same.
@@ -83,7 +83,7 @@ module _ (a h : ℕ) (t : List ℕ) (low : a ≤ 7) where
       (t₂ ≡ true → (1 ≤ w) × (w ≤ 7)) →
       (t₄ ≡ true → b ≡ false) →
       (t₄ ≡ false → (eqb a 0 ≡ false) × (b ≡ t₅)) →
-      Ruled a p (cond t₁ TakenOff (else_rule (cond t₂ (Some w) None) (cond t₃ ClearedForAll (cond t₄ SentOn (cond t₅ Cleared (cond t₆ (Cancelled y) Requested))))))
+      Ruled a p (cond t₁ TakenOff (cond t₂ (AddressSet w) (cond t₃ ClearedForAll (cond t₄ SentOn (cond t₅ Cleared (cond t₆ (Cancelled y) Requested))))))
       (cond t₂ w a) (t₂ || t₃ || b)
   first_rule true t₂ t₃ t₄ t₅ t₆ b y f own wide on mine = let n = own refl in rw (n.0, n.1, n.2) taken_off
   first_rule false true t₃ t₄ t₅ t₆ b y f own wide on mine = let n = wide refl in address n.0 n.1

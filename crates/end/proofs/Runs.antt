@@ -26,8 +26,6 @@ use Rattle.end.proofs.Tied.{Tied, rests, tied_open, tied_holds, tied_in_time, Af
 use Rattle.head.specs.declared.outcome.Endings.{Endings}
 use Rattle.head.specs.declared.setting.Setting.{Setting}
 use Rattle.head.specs.Meaning.{Meaning}
-use Rattle.head.specs.Settings.{Small}
-use Rattle.head.proofs.Bounds.{small as small_of}
 use Rattle.rows.specs.declared.faults.PacketFault.{PacketFault}
 use Rattle.rows.specs.declared.request.Request.{Request}
 use Rattle.rows.specs.declared.request.Request.TheVariants.{Command, Ask}
@@ -88,7 +86,7 @@ pub record Packeted (a' : ℕ) (o : Outcome) (p : List ℕ) (l₁ l₂ : Seen) (
   pub low : a' ≤ 7
   pub after : After a' p l₁ l₂ sent f s'
 
-module _ (s : State) (p sent : List ℕ) (s' : State) (small : (t : Setting) → Small (s.head.setting t)) (low : s.address ≤ 7) (l₁ l₂ : Seen)
+module _ (s : State) (p sent : List ℕ) (s' : State) (low : s.address ≤ 7) (l₁ l₂ : Seen)
     (t₁ : Tied l₁ s.sockets.one s.head.slots.one) (t₂ : Tied l₂ s.sockets.two s.head.slots.two) where
   abbrev a : ℕ
   a = s.address
@@ -123,7 +121,7 @@ module _ (s : State) (p sent : List ℕ) (s' : State) (small : (t : Setting) →
   met_packet w (requested has) d = record {
     then = requested_address a s.head s.sockets (read_body (body_of p));
     low = low;
-    after = effects.request s.head.setting s.head.pantilt a p sent s' low has (read_body (body_of p)) refl small t₁ t₂ d;
+    after = effects.request s.head.setting s.head.pantilt a p sent s' low has (read_body (body_of p)) refl t₁ t₂ d;
   }
 
 -- A byte, by what the book and the end make of it.
@@ -164,7 +162,7 @@ shut_closed : (b : Bool) (l : Seen) → l ≡ closed → shut_if b l ≡ closed
 shut_closed true l e = refl
 shut_closed false l e = e
 
-module _ (k : Book) (s : State) (r : Record) (s' : State) (v : InRange s) (i : Inv k s) where
+module _ (k : Book) (s : State) (r : Record) (s' : State) (i : Inv k s) where
   abbrev sent : List ℕ
   sent = r.fed.sent
 
@@ -183,7 +181,7 @@ module _ (k : Book) (s : State) (r : Record) (s' : State) (v : InRange s) (i : I
   whole_heard {p} w c =
       let low : s.address ≤ 7 = subst (λ (n : ℕ). n ≤ 7) (sym i.address) i.low in
       let u = ruled s.address low w in
-      let m = met_packet s p sent s' (λ t. small_of t (s.head.setting t) (v.each t)) low k.one k.two i.one i.two w u (record { packets = c.packets; head = c.head; sockets = c.sockets }) in
+      let m = met_packet s p sent s' low k.one k.two i.one i.two w u (record { packets = c.packets; head = c.head; sockets = c.sockets }) in
       noted (with_packet (as_at s.address) between (Some p)) s.head.setting sent s' (c.address ∙ m.then) m.low (rw c.held nowhere)
       (λ z. let q = i.asleep (sym i.address ∙ ruled_asleep u z) in (shut_closed (clearing s.address p) k.one q.0, shut_closed (clearing s.address p) k.two q.1))
       m.after
@@ -231,9 +229,9 @@ module _ (k : Book) (s : State) (n : ℕ) (a : Answer) (sent : List ℕ) (e : En
   abbrev of : Call → Record
   of c = record_of c n a sent e
 
-  byte_goes : (b : ℕ) (w : Bool) → leb 16 n ≡ w → InRange s → Inv k s → Step s (of (Byte b)) s' → Goes k s (of (Byte b)) s'
-  byte_goes b true w v i d =
-      let r = byte_heard k s (of (Byte b)) s' v i (heard b i.stands) (d.enough (leb-true 16 n w)) in
+  byte_goes : (b : ℕ) (w : Bool) → leb 16 n ≡ w → Inv k s → Step s (of (Byte b)) s' → Goes k s (of (Byte b)) s'
+  byte_goes b true w i d =
+      let r = byte_heard k s (of (Byte b)) s' i (heard b i.stands) (d.enough (leb-true 16 n w)) in
       record {
         inv = rw w r.inv;
         order_one = λ t. r.order_one;
@@ -242,7 +240,7 @@ module _ (k : Book) (s : State) (n : ℕ) (a : Answer) (sent : List ℕ) (e : En
         settings = λ t. inl (r.settings t);
         answer = λ o. cc;
       }
-  byte_goes b false w v i d = refused k s (of (Byte b)) s' (λ o. cc) w i (d.short (leb-false 16 n w))
+  byte_goes b false w i d = refused k s (of (Byte b)) s' (λ o. cc) w i (d.short (leb-false 16 n w))
 
   tick_goes : (w : Bool) → leb 16 n ≡ w → Inv k s → Step s (of Tick) s' → Goes k s (of Tick) s'
   tick_goes true w i d =
@@ -272,13 +270,13 @@ module _ (k : Book) (s : State) (n : ℕ) (a : Answer) (sent : List ℕ) (e : En
     answer = λ o. let x = tied_open i.one in let y = tied_open i.two in d.answer ∙ rw (x, y) refl;
   }
 
-  call_goes : (c : Call) → InRange s → Inv k s → Step s (of c) s' → Goes k s (of c) s'
-  call_goes (Byte b) v i d = byte_goes b (leb 16 n) refl v i d
-  call_goes Tick v i d = tick_goes (leb 16 n) refl i d
-  call_goes Open v i d = open_goes i d
+  call_goes : (c : Call) → Inv k s → Step s (of c) s' → Goes k s (of c) s'
+  call_goes (Byte b) i d = byte_goes b (leb 16 n) refl i d
+  call_goes Tick i d = tick_goes (leb 16 n) refl i d
+  call_goes Open i d = open_goes i d
 
-pub goes : (k : Book) (s : State) (r : Record) (s' : State) → InRange s → Inv k s → Step s r s' → Goes k s r s'
-goes k s r s' v i d = call_goes k s r.fed.room r.answer r.fed.sent r.endings s' r.fed.call v i d
+pub goes : (k : Book) (s : State) (r : Record) (s' : State) → Inv k s → Step s r s' → Goes k s r s'
+goes k s r s' i d = call_goes k s r.fed.room r.answer r.fed.sent r.endings s' r.fed.call i d
 
 -- Every run.
 
@@ -298,7 +296,7 @@ in_range_in (runs.Run.then r x d v) = v
 
 pub kept : {m : Meaning} {h : List Record} {s : State} → Run m h s → Inv (book_of h) s
 kept (runs.Run.made d v) = just_made d
-kept (runs.Run.then {h = h} {s = s} {s' = s'} r x d v) = (goes (book_of h) s r s' (in_range_in x) (kept x) d).inv
+kept (runs.Run.then {h = h} {s = s} {s' = s'} r x d v) = (goes (book_of h) s r s' (kept x) d).inv
 
 agreement : (k : Book) (s : State) → Inv k s → Agreement k s
 agreement k s i =
@@ -321,9 +319,8 @@ lawful_call k s r s' w g = record {
 
 pub call_law : {m : Meaning} {h : List Record} {s : State} (r : Record) (s' : State) → Run m h s → Step s r s' → Law (book_of h) s r s'
 call_law {h = h} {s = s} r s' x d =
-    let v = in_range_in x in
     let i = kept x in
-    lawful_call (book_of h) s r s' (whole_packets s r s' (rw i.address i.low) v i.stands d) (goes (book_of h) s r s' v i d)
+    lawful_call (book_of h) s r s' (whole_packets s r s' (rw i.address i.low) i.stands d) (goes (book_of h) s r s' i d)
 
 pub every_run : {m : Meaning} {h : List Record} {s : State} → Run m h s → Lawful m h s
 every_run (runs.Run.made {s = s} d v) = law.Lawful.made d v (agreement fresh s (just_made d))

@@ -12,20 +12,16 @@ use Rattle.end.specs.Law.{WholePackets}
 use Rattle.end.specs.Records.{Record, record_of}
 use Rattle.end.specs.Outcomes.{Outcome, own_header, own, framed, met, taken, commanded, requested as asked-for, ended, ticked}
 use Rattle.end.specs.Sockets.{is_open, socket_at, finds_room, free, powering_in}
-use Rattle.end.specs.States.{State, InRange}
+use Rattle.end.specs.States.{State}
 use Rattle.end.specs.Steps.{Step}
-use Rattle.end.proofs.Asked.{told_plain, told_fits}
 use Rattle.end.proofs.Heard.{Stands, Heard, nothing, faulty, packet, heard, Whole, whole}
 use Rattle.end.proofs.Ruled.{Ruled, taken_off, address, cleared_for_all, sent_on, cleared, cancelled, requested, ruled}
-use Rattle.end.proofs.Spoken.{Plain, cut_packet, packet_of, own_header_plain, own_header_is, tail_of, tail_plain, own_is}
+use Rattle.end.proofs.Spoken.{Plain, plain_of, cut_packet, packet_of, own_header_plain, own_header_is, tail_of, tail_plain, own_is}
 use Rattle.head.specs.declared.order.Order.{Order}
 use Rattle.head.specs.declared.outcome.Ending.{Ending}
 use Rattle.head.specs.declared.outcome.Ending.TheVariants.{Done, Jammed}
 use Rattle.head.specs.declared.outcome.Endings.{Endings}
-use Rattle.head.specs.declared.setting.Setting.{Setting}
 use Rattle.head.specs.Meaning.{Meaning, in_use}
-use Rattle.head.specs.Settings.{Small}
-use Rattle.head.proofs.Bounds.{small as small_of}
 use Rattle.rows.specs.declared.command.Command as says
 use Rattle.rows.specs.declared.faults.PacketFault.{PacketFault}
 use Rattle.rows.specs.declared.request.Request.{Request}
@@ -33,6 +29,7 @@ use Rattle.rows.specs.declared.request.Request.TheVariants.{Command, Ask}
 use Rattle.rows.specs.Answers as inquiry
 use Rattle.rows.specs.Orders.{order_of, subject}
 use Rattle.rows.specs.Requests.{read_body}
+use Rattle.rows.proofs.AnswerBytes.{answer_no_end, answer_short}
 use Rattle.rules.specs.declared.reply.Problem.TheVariants.{Syntax, BufferFull, Cancelled as CancelledCommand, NoSocket, NotExecutable}
 use Rattle.rules.specs.declared.reply.Reply.{Reply}
 use Rattle.rules.specs.declared.reply.Reply.TheVariants.{Acknowledgement, Completion, Error}
@@ -115,29 +112,30 @@ module _ (a : ℕ) (low : a ≤ 7) where
       (either 2 (forbidden_by m.setting m.pantilt (powering_in k) (subject c) (order_of c)) _ _ (reply (Error 0 NotExecutable) 1)
       (accepted k (free k) (order_of c)))
 
-  request : (m : Meaning) (k : Sockets) (r : Result Request PacketFault) → ((t : Setting) → Small (m.setting t)) → WholePackets 2 (asked-for a m k r).sent
-  request m k (Ok (Command place c)) small = command m k c
-  request m k (Ok (Ask q)) small =
-      let f = told_fits m.setting m.pantilt q.form q.setting in
-      answered (inquiry.answer_body q.form m.setting q.setting m.pantilt) (told_plain m.setting m.pantilt small q.form q.setting) f.some f.few
-  request m k (Err f) small = reply (Error 0 Syntax) 1
+  request : (m : Meaning) (k : Sockets) (r : Result Request PacketFault) → WholePackets 2 (asked-for a m k r).sent
+  request m k (Ok (Command place c)) = command m k c
+  request m k (Ok (Ask q)) =
+      let t = inquiry.answer_body q.form m.setting q.setting m.pantilt in
+      let short = answer_short q m.setting m.pantilt in
+      answered t (plain_of t (answer_no_end q m.setting m.pantilt)) short.some short.few
+  request m k (Err f) = reply (Error 0 Syntax) 1
 
   -- a whole packet
-  meeting : {p : List ℕ} {r : Rule} {a' : ℕ} {c : Bool} (m : Meaning) (k : Sockets) → ((t : Setting) → Small (m.setting t)) → Whole p → Ruled a p r a' c → WholePackets 2 (met a m k p r).sent
-  meeting m k small w taken_off = silent 2
-  meeting m k small w (address {w = n} some few) = address_packet n some few
-  meeting m k small w (cleared_for_all f) = passed w
-  meeting m k small w (sent_on f) = passed w
-  meeting m k small w (cleared has) = reply (Completion 0) 1
-  meeting m k small w (cancelled {y = y} has) =
+  meeting : {p : List ℕ} {r : Rule} {a' : ℕ} {c : Bool} (m : Meaning) (k : Sockets) → Whole p → Ruled a p r a' c → WholePackets 2 (met a m k p r).sent
+  meeting m k w taken_off = silent 2
+  meeting m k w (address {w = n} some few) = address_packet n some few
+  meeting m k w (cleared_for_all f) = passed w
+  meeting m k w (sent_on f) = passed w
+  meeting m k w (cleared has) = reply (Completion 0) 1
+  meeting m k w (cancelled {y = y} has) =
       either 2 (is_open (socket_at k y)) _ _ (reply (Error y CancelledCommand) 1) (reply (Error y NoSocket) 1)
-  meeting {p = p} m k small w (requested has) = request m k (read_body (body_of p)) small
+  meeting {p = p} m k w (requested has) = request m k (read_body (body_of p))
 
   -- a byte
-  hearing : {st : Standing} {h : _} {x : Option (List ℕ)} {ev : Event} (m : Meaning) (k : Sockets) → ((t : Setting) → Small (m.setting t)) → Heard st h x ev → WholePackets 2 (framed a m k ev).sent
-  hearing m k small (nothing t) = silent 2
-  hearing m k small (faulty t) = silent 2
-  hearing m k small (packet w) = meeting m k small w (ruled a low w)
+  hearing : {st : Standing} {h : _} {x : Option (List ℕ)} {ev : Event} (m : Meaning) (k : Sockets) → Heard st h x ev → WholePackets 2 (framed a m k ev).sent
+  hearing m k (nothing t) = silent 2
+  hearing m k (faulty t) = silent 2
+  hearing m k (packet w) = meeting m k w (ruled a low w)
 
   -- a tick
   ended_length : (y : ℕ) (e : Option Ending) → length (ended (own_header a) y e) ≤ 12
@@ -153,11 +151,11 @@ module _ (a : ℕ) (low : a ≤ 7) where
   ticking : (e : Endings) → WholePackets 2 (ticked a e).sent
   ticking e = ending 1 e.one (ended (own_header a) 2 e.two) 1 (ended_length 2 e.two) (rw append-nil at (ending 2 e.two [] 0 (omega arith) (silent 0)))
 
-module _ {st : Standing} (s : State) (n : ℕ) (a : Answer) (sent : List ℕ) (e : Endings) (s' : State) (low : s.address ≤ 7) (v : InRange s) (stands : Stands st s.held) where
+module _ {st : Standing} (s : State) (n : ℕ) (a : Answer) (sent : List ℕ) (e : Endings) (s' : State) (low : s.address ≤ 7) (stands : Stands st s.held) where
   by_call : (c : Call) → Step s (record_of c n a sent e) s' → WholePackets 2 sent
   by_call (Byte b) d = elim (cases_lt n 16) [
     | inl less ↦ rw (d.short less).packets (silent 2)
-    | inr enough ↦ rw (d.enough enough).packets (hearing s.address low s.head s.sockets (λ t. small_of t (s.head.setting t) (v.each t)) (heard b stands))
+    | inr enough ↦ rw (d.enough enough).packets (hearing s.address low s.head s.sockets (heard b stands))
   ]
   by_call Tick d = elim (cases_lt n 16) [
     | inl less ↦ rw (d.short less).packets (silent 2)
@@ -165,5 +163,5 @@ module _ {st : Standing} (s : State) (n : ℕ) (a : Answer) (sent : List ℕ) (e
   ]
   by_call Open d = rw d.silent (silent 2)
 
-pub whole_packets : {st : Standing} (s : State) (r : Record) (s' : State) → s.address ≤ 7 → InRange s → Stands st s.held → Step s r s' → WholePackets 2 r.fed.sent
-whole_packets s r s' low v stands d = by_call s r.fed.room r.answer r.fed.sent r.endings s' low v stands r.fed.call d
+pub whole_packets : {st : Standing} (s : State) (r : Record) (s' : State) → s.address ≤ 7 → Stands st s.held → Step s r s' → WholePackets 2 r.fed.sent
+whole_packets s r s' low stands d = by_call s r.fed.room r.answer r.fed.sent r.endings s' low stands r.fed.call d

@@ -1,6 +1,6 @@
 -- What the book makes of bytes that an end sends: its own replies, and packets that say nothing of its sockets.
 use Rattle.std.proofs.Common.{◌≡◌, ℕ, ◌+◌, ◌/◌, ◌%◌, ◌<◌, ◌≤◌, Bool, true, false, cond, not, ◌&&◌, eqb, List, [], ◌∷◌, ◌++◌, length, sym, refl, ap, ◌∙◌, subst, append_assoc, arith}
-use Rattle.std.proofs.lemmas.Bool.{eqb-false, eq-eqb, ne_eqb, le-leb}
+use Rattle.std.proofs.lemmas.Bool.{eqb-false, eq-eqb, ne_eqb, le-leb, and_parts, not-true}
 use Rattle.std.proofs.lemmas.List.{length_push}
 use Rattle.end.specs.Book.{Seen, Said, acknowledges, ends, other, equal_bytes, cut, cut_from, said_of, seen_after_said, seen_after_replies}
 use Rattle.end.specs.Law.{Due, InOrder}
@@ -10,13 +10,17 @@ use Rattle.rules.specs.declared.reply.Problem.TheVariants.{Syntax, BufferFull, C
 use Rattle.rules.specs.declared.reply.Reply.{Reply}
 use Rattle.rules.specs.declared.reply.Reply.TheVariants.{Acknowledgement, Completion, Error}
 use Rattle.rules.specs.Replies.{problem_code}
-use Rattle.wire.specs.Packets.{is_header, closes, is_packet}
+use Rattle.wire.specs.Packets.{is_header, no_end, closes, is_packet}
 
 -- Bytes without FF, and how they are cut.
 
 abbrev pub Plain : List ℕ → Type 0
 Plain [] = Unit {0}
 Plain (b ∷ bs) = (eqb b 0xff ≡ false) × Plain bs
+
+pub plain_of : (bs : List ℕ) → no_end bs ≡ true → Plain bs
+plain_of [] h = tt
+plain_of (b ∷ bs) h = let q = and_parts (not (eqb b 0xff)) (no_end bs) h in (not-true (eqb b 0xff) q.0, plain_of bs q.1)
 
 pub plain_push : (bs : List ℕ) (b : ℕ) → Plain bs → eqb b 0xff ≡ false → Plain (bs ++ b ∷ [])
 plain_push [] b h e = (e, tt)

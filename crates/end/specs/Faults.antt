@@ -6,7 +6,7 @@ use Rattle.end.specs.declared.faults.Fault.{Fault}
 use Rattle.rows.specs.declared.faults.PacketFault.{PacketFault}
 use Rattle.rows.specs.Requests as packets
 use Rattle.fault.specs.declared.code.FaultCode.{FaultCode}
-use Rattle.wire.specs.declared.framer.FramingFault.{FramingFault}
+use Rattle.wire.specs.declared.faults.FramingFault.{FramingFault}
 use Rattle.fault.specs.declared.code.Layer.TheVariants as layer
 use Rattle.fault.specs.Faults.{fault_code}
 use Rattle.wire.specs.Framing as framing
