@@ -11,5 +11,6 @@ pub mod Law
 pub mod Played
 pub mod Ends
 pub mod Promises
+pub mod Traffic
 pub mod Exchanges
 pub mod Tried

@@ -4,6 +4,10 @@
 ghost use Rattle.end.specs.Law.{CallsKeepTheLaw, SocketsAgreeInEveryRun};
 ghost use Rattle.end.specs.Promises.{ACancelIsNeverRefused, AWholeCancelIsNeverRefused, EveryAcknowledgedCommandIsEnded, WhatIsSentIsWholePackets};
 ghost use Rattle.end.specs.Runs.{RunsGoOn};
+ghost use Rattle.end.specs.Traffic.{OrdersAreAskedFor, PacketsOfOthersPass};
+
+use rows::theorems::an_order_is_read_by_one_row;
+use rules::theorems::what_becomes_of_packets;
 
 /// In every run, over any head, the law holds after each call.
 pub fn sockets_agree_in_every_run()
@@ -40,3 +44,19 @@ pub fn every_acknowledged_command_is_ended()
 pub fn what_is_sent_is_whole_packets()
     ensures { WhatIsSentIsWholePackets }
 {}
+
+/// In any run, packets that are none of this end's business do nothing: one from this end is taken off, and one from
+/// another end or for another is sent on as it came, as is everything but two broadcasts where there is no address.
+pub fn packets_of_others_pass()
+    ensures { PacketsOfOthersPass }
+{
+    what_becomes_of_packets();
+}
+
+/// The head is given an order only for a packet that is for this end and that just one row admits, and it is that
+/// row's order.
+pub fn orders_are_asked_for()
+    ensures { OrdersAreAskedFor }
+{
+    an_order_is_read_by_one_row();
+}
