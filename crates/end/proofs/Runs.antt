@@ -3,6 +3,7 @@ use Rattle.std.proofs.Common.{◌≡◌, ℕ, ◌-◌, ◌≤◌, Bool, true, fa
 use Rattle.std.proofs.lemmas.Bool.{eqb-true, leb-true, leb-false}
 use Rattle.end.specs.declared.call.Call.{Call}
 use Rattle.end.specs.declared.call.Call.TheVariants.{Byte, Tick, Open}
+use Rattle.end.specs.declared.end.End.{End}
 use Rattle.end.specs.declared.faults.Cause.TheVariants.{ShortBuffer}
 use Rattle.end.specs.declared.socket.Sockets.{Sockets}
 use Rattle.end.specs.Book.{Book, Standing, Seen, closed, between, cut, seen_after_replies, with_packet, after_replies, after_tick, one_tick_older, before_replies, accepted, after_call, fresh, clearing}
@@ -10,12 +11,14 @@ use Rattle.end.specs.Deeds.{Unchanged}
 use Rattle.end.specs.Faults.{Answer, opens}
 use Rattle.end.specs.Law.{Lawful, Law, Agreement, WholePackets, InOrder, InOrderAt, MayChange, open_by, Keeps, LawfulBehind, CallsKeepTheLaw, SocketsAgreeInEveryRun}
 use Rattle.end.specs.Law as law
-use Rattle.end.specs.Played.{Played, CallMade}
+use Rattle.end.specs.Ends as Ends
+use Rattle.end.specs.Ends.{Served}
+use Rattle.end.specs.Played.{CallMade, Played, PlayedOn}
 use Rattle.end.specs.Records.{Record, record_of, room_for, book_of}
 use Rattle.end.specs.Runs.{Run, Calls, RunsGoOn}
 use Rattle.end.specs.Runs as runs
 use Rattle.end.specs.Outcomes.{Outcome, own_header, sends, fails, framed, met, ended, requested as asked_for}
-use Rattle.end.specs.States.{State, InRange}
+use Rattle.end.specs.States.{State, InRange, state}
 use Rattle.end.specs.Steps.{Came, Made, Step}
 use Rattle.end.proofs.Effects as effects
 use Rattle.end.proofs.Heard.{Stands, nowhere, Heard, nothing, faulty, packet, heard, Whole}
@@ -25,6 +28,8 @@ use Rattle.end.proofs.Ticking.{tied_after_tick, changed}
 use Rattle.end.proofs.Tied.{Tied, rests, tied_open, tied_holds, tied_in_time, After}
 use Rattle.head.specs.declared.outcome.Endings.{Endings}
 use Rattle.head.specs.declared.setting.Setting.{Setting}
+use Rattle.head.specs.declared.traits.Head.{Ghosts as HeadGhosts}
+use Rattle.head.specs.declared.traits.Look.{Ghosts as LookGhosts}
 use Rattle.head.specs.Meaning.{Meaning}
 use Rattle.rows.specs.declared.faults.PacketFault.{PacketFault}
 use Rattle.rows.specs.declared.request.Request.{Request}
@@ -354,22 +359,25 @@ calls_then c (runs.Calls.then r c' d v) = runs.Calls.then r (calls_then c c') d 
 
 -- A list of calls.
 
-lawful_run : {m : Meaning} {h : List Record} {s : State} → Lawful m h s → Run m h s
-lawful_run (law.Lawful.made d v g) = runs.Run.made d v
-lawful_run (law.Lawful.then r x d v l) = runs.Run.then r (lawful_run x) d v
+module _ {H : Type 0} {h : HeadGhosts H} {l : LookGhosts H} {x : End H h l} where
+  pub served_run : {m : Meaning} {rs : List Record} {x' : End H h l} → Served x rs x' → Run m [] (state x) → Run m rs (state x')
+  served_run Ends.Served.none r = r
+  served_run (Ends.Served.then k c step ranged head) r = runs.Run.then k (served_run c r) step ranged
 
-pub played_none : {m : Meaning} {s : State} (n : ℕ) → InRange s → Made m s → Played m [] n [] s
-played_none n v d = record { run = []; asked = refl; logged = refl; shared = tt; lawful = every_run (runs.Run.made d v) }
+  pub played : {m : Meaning} {calls : List Call} {n : ℕ} {bytes : List ℕ} {x' : End H h l} → Run m [] (state x) → PlayedOn x calls n bytes x' → Played m calls n bytes (state x')
+  played r p = record { run = p.run; asked = p.asked; logged = p.logged; shared = p.shared; lawful = every_run (served_run p.served r) }
 
-pub played_more : (m : Meaning) (cs : List Call) (n : ℕ) (bs : List ℕ) (s : State) (c : Call) (sent : List ℕ) (s' : State) →
-    CallMade c (n - length bs) s sent s' → Played m cs n bs s → Played m (cs ++ c ∷ []) n (bs ++ sent) s'
-played_more m cs n bs s c sent s' d v =
-    let room = room_for c (n - length bs) in
-    let r = record_of c room d.answer sent d.endings in
-    record {
-      run = r ∷ v.run;
-      asked = ap (λ (x : List Call). x ++ c ∷ []) v.asked;
-      logged = ap (λ (x : List ℕ). x ++ sent) v.logged;
-      shared = (ap (λ (x : List ℕ). room_for c (n - length x)) (sym v.logged), v.shared);
-      lawful = law.Lawful.then r v.lawful d.step d.ranged (call_law r s' (lawful_run v.lawful) d.step);
-    }
+  pub played_none : (n : ℕ) → PlayedOn x [] n [] x
+  played_none n = record { run = []; asked = refl; logged = refl; shared = tt; served = Ends.Served.none }
+
+  pub played_more : (calls : List Call) (n : ℕ) (bytes : List ℕ) (x' : End H h l) (c : Call) (sent : List ℕ) (x'' : End H h l) →
+      CallMade c (n - length bytes) x' sent x'' → PlayedOn x calls n bytes x' → PlayedOn x (calls ++ c ∷ []) n (bytes ++ sent) x''
+  played_more calls n bytes x' c sent x'' d v =
+      let r = record_of c (room_for c (n - length bytes)) d.answer sent d.endings in
+      record {
+        run = r ∷ v.run;
+        asked = ap (λ (z : List Call). z ++ c ∷ []) v.asked;
+        logged = ap (λ (z : List ℕ). z ++ sent) v.logged;
+        shared = (ap (λ (z : List ℕ). room_for c (n - length z)) (sym v.logged), v.shared);
+        served = Ends.Served.then r v.served d.step d.ranged d.head;
+      }

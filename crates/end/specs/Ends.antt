@@ -1,15 +1,15 @@
 -- An end and its head by their own values, over calls and what calls are made of.
-use Rattle.std.specs.Prelude.{◌≡◌, ℕ, ◌≤◌, List, length, Result}
+use Rattle.std.specs.Prelude.{◌≡◌, ℕ, List, [], ◌∷◌, Result}
 use Rattle.end.specs.declared.call.Call.TheVariants.{Tick}
 use Rattle.end.specs.declared.end.End.{End}
 use Rattle.end.specs.declared.faults.Fault.{Fault}
-use Rattle.end.specs.Deeds.{Deed, clears, ticks, HeadCalls, sockets_after}
+use Rattle.end.specs.Deeds.{Deed, clears, HeadCalls, sockets_after}
 use Rattle.end.specs.Faults.{Answer, counts}
 use Rattle.end.specs.Law.{Keeps}
 use Rattle.end.specs.Outcomes.{Outcome, ticked, answer_of}
-use Rattle.end.specs.Records.{call_record}
-use Rattle.end.specs.States.{state}
-use Rattle.end.specs.Steps.{Step}
+use Rattle.end.specs.Records.{Record, call_record}
+use Rattle.end.specs.States.{InRange, state}
+use Rattle.end.specs.Steps.{Step, deed_of}
 use Rattle.head.specs.declared.outcome.Endings.{Endings}
 use Rattle.head.specs.declared.traits.Head.{Ghosts as HeadGhosts}
 use Rattle.head.specs.declared.traits.Look.{Ghosts as LookGhosts}
@@ -31,14 +31,21 @@ TakesOver {h = h} given x = HeadCalls h clears given x.head
 abbrev pub HandsBack : {H : Type 0} {h : HeadGhosts H} {l : LookGhosts H} → End H h l → H → Type 0
 HandsBack {h = h} x given = HeadCalls h clears x.head given
 
--- a tick: with the endings that the head told it is a step and keeps the law, and if there is room the head went through
--- this one tick
+-- a tick: with the endings that the head told it is a step and keeps the law, and the head went through this one tick, or
+-- through none if the tick is refused
 pub record Ticks {H : Type 0} {h : HeadGhosts H} {l : LookGhosts H}
     (x : End H h l) (old : List ℕ) (r : Result ℕ Fault) (new : List ℕ) (x' : End H h l) : Type 0 where
   pub endings : Endings
   pub step : Step (state x) (call_record Tick old r new endings) (state x')
-  pub head : 16 ≤ length old → HeadOver (ticks endings) x x'
+  pub head : HeadOver (deed_of (state x) (call_record Tick old r new endings)) x x'
   pub law : Keeps (state x) (call_record Tick old r new endings) (state x')
+
+-- The calls from end x to another, by values: each is a step, over which the head went through the calls of its deed. The newest
+-- record stands first.
+pub data Served {H : Type 0} {h : HeadGhosts H} {l : LookGhosts H} (x : End H h l) : List Record → End H h l → Type 0 where
+  none : Served x [] x
+  then : {rs : List Record} {x' x'' : End H h l} (r : Record) → Served x rs x' →
+      Step (state x') r (state x'') → InRange (state x'') → HeadOver (deed_of (state x') r) x' x'' → Served x (r ∷ rs) x''
 
 -- What calls are made of.
 

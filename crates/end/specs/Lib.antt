@@ -8,8 +8,8 @@ pub mod Records
 pub mod Steps
 pub mod Runs
 pub mod Law
-pub mod Played
 pub mod Ends
+pub mod Played
 pub mod Promises
 pub mod Traffic
 pub mod Exchanges

@@ -1,20 +1,31 @@
 -- One call on an end: what it answers, what it sends, and what the end and its head are then.
-use Rattle.std.specs.Prelude.{◌≡◌, ℕ, ◌<◌, ◌≤◌, []}
+use Rattle.std.specs.Prelude.{◌≡◌, ℕ, ◌<◌, ◌≤◌, if◌then◌else◌, []}
 use Rattle.end.specs.declared.call.Call.{Call}
 use Rattle.end.specs.declared.call.Call.TheVariants.{Byte, Tick, Open}
 use Rattle.end.specs.declared.faults.Cause.TheVariants.{ShortBuffer}
-use Rattle.end.specs.Deeds.{DidHead, sockets_after, endings_in, none_ended, Cleared, Unchanged}
+use Rattle.end.specs.Book.{accepted}
+use Rattle.end.specs.Deeds.{Deed, nothing, ticks, DidHead, sockets_after, endings_in, none_ended, Cleared, Unchanged}
 use Rattle.end.specs.Faults.{opens}
 use Rattle.end.specs.Outcomes.{Outcome, fails, framed, ticked, answer_of}
 use Rattle.end.specs.Records.{Record}
 use Rattle.end.specs.Sockets.{is_open, both_closed}
 use Rattle.end.specs.States.{State}
+use Rattle.head.specs.declared.outcome.Endings.{Endings}
 use Rattle.head.specs.Meaning.{Meaning}
 use Rattle.wire.specs.Framing.{Held, none, held_after, event}
 
 -- what comes of a byte
 abbrev pub heard_in : State → ℕ → Outcome
 heard_in s b = framed s.address s.head s.sockets (event s.held b)
+
+-- the deed of a call: a call that is not accepted does nothing
+abbrev pub deed_by : State → Call → Endings → Deed
+deed_by s (Byte b) e = (heard_in s b).deed
+deed_by s Tick e = ticks e
+deed_by s Open e = nothing
+
+abbrev pub deed_of : State → Record → Deed
+deed_of s r = if accepted r.fed.call r.fed.room then deed_by s r.fed.call r.endings else nothing
 
 -- the outcome o came about, with framing h then: the answer, the bytes sent, what the head told, and the state are those that it says
 pub record Came (s : State) (h : Held) (o : Outcome) (r : Record) (s' : State) : Type 0 where

@@ -53,7 +53,7 @@ impl<H: Head> End<H> {
     ghost use Rattle.end.specs.Law.{Keeps};
     ghost use Rattle.end.specs.Records.{byte_record, open_record};
     ghost use Rattle.end.specs.States.{meaning, state};
-    ghost use Rattle.end.specs.Steps.{Made, Step, heard_in};
+    ghost use Rattle.end.specs.Steps.{Made, Step, deed_of, heard_in};
     ghost use Rattle.wire.specs.Framing.{held_after};
 
     /// An end over a head, whose slots are dropped: no address, no packet begun, both sockets closed.
@@ -90,8 +90,8 @@ impl<H: Head> End<H> {
     pub fn byte(&mut self, byte: u8, out: &mut [u8]) -> Result<usize, Fault>
         ensures step { Step (state self.old) (byte_record byte out.old result out.new) (state self.new) }
 
-        // The calls that the head went through are those of the byte's deed.
-        ensures head { 16 ≤ length out.old → HeadOver (heard_in (state self.old) byte).deed self.old self.new }
+        // The head went through the calls of the byte's deed, and through no others.
+        ensures head { HeadOver (deed_of (state self.old) (byte_record byte out.old result out.new)) self.old self.new }
         ensures refused { length out.old < 16 → self.new ≡ self.old }
         ensures untouched { drop (count_told result) out.new ≡ drop (count_told result) out.old }
         ensures within { count_told result ≤ length out.new }

@@ -1,7 +1,7 @@
 //! A list of calls, played on a fresh end.
 
 ghost use Rattle.std.specs.Prelude.{◌≡◌, ◌+◌, ◌-◌, ◌≤◌, length, take, drop};
-ghost use Rattle.end.specs.Played.{Played, CallMade};
+ghost use Rattle.end.specs.Played.{CallMade, Played, PlayedFrom};
 ghost use Rattle.end.specs.States.{meaning, state};
 
 use crate::call::Call;
@@ -13,7 +13,7 @@ use head::{Head, Look};
 fn serve<H: Head>(end: &mut End<H>, call: Call, out: &mut [u8]) -> usize
     ensures within { result ≤ length out.new }
     ensures untouched { drop result out.new ≡ drop result out.old }
-    ensures served { CallMade call (length out.old) (state end.old) (take result out.new) (state end.new) }
+    ensures served { CallMade call (length out.old) end.old (take result out.new) end.new }
 {
     // Calls are data and no closures, so that a list of them can be stated and read.
     match call {
@@ -32,8 +32,7 @@ fn log_call<H: Head>(end: &mut End<H>, call: Call, log: &mut [u8], count: usize)
     ensures within { count + result ≤ length log.new }
     ensures logged { take count log.new ≡ take count log.old }
     ensures untouched { drop (count + result) log.new ≡ drop (count + result) log.old }
-    ensures served { CallMade call (length log.old - count) (state end.old)
-        (take result (drop count log.new)) (state end.new) }
+    ensures served { CallMade call (length log.old - count) end.old (take result (drop count log.new)) end.new }
 {
     let (_, rest) = log.split_at_mut(count);
     serve(end, call, rest)
@@ -45,6 +44,7 @@ fn log_call<H: Head>(end: &mut End<H>, call: Call, log: &mut [u8], count: usize)
 pub fn play<H: Head>(head: H, calls: &[Call], log: &mut [u8]) -> (End<H>, usize)
     ensures played { Played (meaning H.Look H.slots head) calls.now (length log.old)
         (take result.1 log.new) (state result.0) }
+    ensures served { PlayedFrom head calls.now (length log.old) (take result.1 log.new) result.0 }
     ensures within { result.1 ≤ length log.new }
     ensures untouched { drop result.1 log.new ≡ drop result.1 log.old }
 {

@@ -3,13 +3,13 @@ use Rattle.std.proofs.Math.Seq.{take-add}
 use Rattle.std.proofs.lemmas.List.{drop-drop, take_more, take_all, length-take-le}
 use Rattle.end.specs.declared.call.Call.{Call}
 use Rattle.end.specs.declared.call.Call.TheVariants.{Byte}
-use Rattle.end.specs.Played.{Played}
-use Rattle.end.specs.States.{meaning, state}
-use Rattle.end.proofs.Runs.{played_more, played_none}
+use Rattle.end.specs.Played.{PlayedOn}
+use Rattle.end.specs.Runs as runs
+use Rattle.end.proofs.Runs.{played, played_more, played_none}
 use Rattle.end.proofs.script.play.Goals as goal
 
 pub loop-call-init : goal.loop-call-init
-loop-call-init g c = (omega arith, omega arith, λ m d. played_none (length c.args.log.now) (record { each = g.met.H.Look.ranged c.make-end.result.head }) d, refl)
+loop-call-init g c = (omega arith, omega arith, played_none (length c.args.log.now), refl)
 
 -- what is the same past n bytes is so past more
 same_past : (n m : ℕ) (xs ys : List ℕ) → drop n xs ≡ drop n ys → drop (n + m) xs ≡ drop (n + m) ys
@@ -30,19 +30,20 @@ loop-call-preserved g c =
     omega arith in (
       omega arith,
       omega arith,
-      λ p b.
-          rw (take_more c.args.calls.now c.loop-call.call-index (Byte 0) c.loop-call-test.true, more)
-          (played_more p (take c.loop-call.call-index c.args.calls.now) (length c.args.log.now) (take n log) _ _ _ _ (rw left at d.served) (inv.2 p b)),
+      rw (take_more c.args.calls.now c.loop-call.call-index (Byte 0) c.loop-call-test.true, more)
+          (played_more (take c.loop-call.call-index c.args.calls.now) (length c.args.log.now) (take n log) _ _ _ _ (rw left at d.served) inv.2),
       d.untouched ∙ same_past n m log c.args.log.now inv.3,
     )
 
 pub returns : goal.returns
 returns g c =
-    let m = meaning g.H.Look g.H.Head.slots c.args.head in
-    let s = state c.loop-call.end in
+    let x = c.make-end.result in
+    let made = c.make-end.ensures in
+    let whole = subst (λ (cs : List Call). PlayedOn x cs (length c.args.log.now) (take c.loop-call.count c.loop-call.log) c.loop-call.end)
+    (take_all c.loop-call.call-index c.args.calls.now c.loop-call-test.false) c.loop-call.invariant.2 in
     record {
-      played = subst (λ (cs : List Call). Played m cs (length c.args.log.now) (take c.loop-call.count c.loop-call.log) s)
-          (take_all c.loop-call.call-index c.args.calls.now c.loop-call-test.false) (c.loop-call.invariant.2 m c.make-end.ensures.made);
+      played = played (runs.Run.made made.made (record { each = g.met.H.Look.ranged x.head })) whole;
+      served = record { first = x; head = made.head; made = made.made; played = whole };
       within = c.loop-call.invariant.1;
       untouched = c.loop-call.invariant.3;
     }

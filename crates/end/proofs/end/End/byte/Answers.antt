@@ -1,4 +1,5 @@
-use Rattle.std.proofs.Common.{arith, rules}
+use Rattle.std.proofs.Common.{arith, length, rules}
+use Rattle.std.proofs.lemmas.Bool.{le-leb}
 use Rattle.end.proofs.Ends.{Means, byte_step, untouched, within}
 use Rattle.end.proofs.Runs.{keeps}
 use Rattle.end.proofs.end.End.byte.Goals as goal
@@ -14,7 +15,7 @@ returns g c =
     let step = byte_step law c.args.self.now _ _ _ _ enough c.args.byte k in
     record {
       step = step;
-      head = λ n. k.head;
+      head = rw (le-leb 16 (length c.args.out.now) enough) k.head;
       refused = λ less. absurd (omega arith);
       untouched = untouched _ _ _ _ _ _ _ k;
       within = within _ _ _ _ _ _ _ k;

@@ -1,4 +1,5 @@
-use Rattle.std.proofs.Common.{Ok, arith, rules}
+use Rattle.std.proofs.Common.{Ok, arith, length, refl, rules}
+use Rattle.std.proofs.lemmas.Bool.{le-leb, lt-leb}
 use Rattle.end.specs.Deeds.{none_ended}
 use Rattle.end.proofs.Ends.{Means, tick_step, untouched, within}
 use Rattle.end.proofs.Runs.{keeps}
@@ -8,7 +9,7 @@ pub returns-in_err-room-clause-ticked : goal.returns-in_err-room-clause-ticked
 returns-in_err-room-clause-ticked g c = record {
   endings = none_ended;
   step = search rules;
-  head = λ n. let less = c.in_err-room.ensures.short.0 in absurd (omega arith);
+  head = rw (lt-leb 16 (length c.args.out.now) c.in_err-room.ensures.short.0) refl;
   law = keeps _ _ _ (record { each = g.met.H.Look.ranged c.args.self.now.head }) (search rules);
 }
 
@@ -24,7 +25,7 @@ returns g c =
       ticked = record {
         endings = t.endings;
         step = step;
-        head = λ n. k.head;
+        head = rw (le-leb 16 (length c.args.out.now) enough) k.head;
         law = keeps _ _ _ (record { each = g.met.H.Look.ranged c.accept_tick.new.self.head }) step;
       };
       refused = λ less. absurd (omega arith);
