@@ -12,7 +12,7 @@ use Rattle.end.specs.Faults.{Answer, opens}
 use Rattle.end.specs.Law.{Lawful, Law, Agreement, WholePackets, InOrder, InOrderAt, MayChange, open_by, Keeps, LawfulBehind, CallsKeepTheLaw, SocketsAgreeInEveryRun}
 use Rattle.end.specs.Law as law
 use Rattle.end.specs.Ends as Ends
-use Rattle.end.specs.Ends.{Served}
+use Rattle.end.specs.Ends.{CallsOn}
 use Rattle.end.specs.Played.{CallMade, Played, PlayedOn}
 use Rattle.end.specs.Records.{Record, record_of, room_for, book_of}
 use Rattle.end.specs.Runs.{Run, Calls, RunsGoOn}
@@ -360,15 +360,15 @@ calls_then c (runs.Calls.then r c' d v) = runs.Calls.then r (calls_then c c') d 
 -- A list of calls.
 
 module _ {H : Type 0} {h : HeadGhosts H} {l : LookGhosts H} {x : End H h l} where
-  pub served_run : {m : Meaning} {rs : List Record} {x' : End H h l} → Served x rs x' → Run m [] (state x) → Run m rs (state x')
-  served_run Ends.Served.none r = r
-  served_run (Ends.Served.then k c step ranged head) r = runs.Run.then k (served_run c r) step ranged
+  pub served_run : {m : Meaning} {rs : List Record} {x' : End H h l} → CallsOn x rs x' → Run m [] (state x) → Run m rs (state x')
+  served_run Ends.CallsOn.none r = r
+  served_run (Ends.CallsOn.then k c step ranged head) r = runs.Run.then k (served_run c r) step ranged
 
   pub played : {m : Meaning} {calls : List Call} {n : ℕ} {bytes : List ℕ} {x' : End H h l} → Run m [] (state x) → PlayedOn x calls n bytes x' → Played m calls n bytes (state x')
   played r p = record { run = p.run; asked = p.asked; logged = p.logged; shared = p.shared; lawful = every_run (served_run p.served r) }
 
   pub played_none : (n : ℕ) → PlayedOn x [] n [] x
-  played_none n = record { run = []; asked = refl; logged = refl; shared = tt; served = Ends.Served.none }
+  played_none n = record { run = []; asked = refl; logged = refl; shared = tt; served = Ends.CallsOn.none }
 
   pub played_more : (calls : List Call) (n : ℕ) (bytes : List ℕ) (x' : End H h l) (c : Call) (sent : List ℕ) (x'' : End H h l) →
       CallMade c (n - length bytes) x' sent x'' → PlayedOn x calls n bytes x' → PlayedOn x (calls ++ c ∷ []) n (bytes ++ sent) x''
@@ -379,5 +379,5 @@ module _ {H : Type 0} {h : HeadGhosts H} {l : LookGhosts H} {x : End H h l} wher
         asked = ap (λ (z : List Call). z ++ c ∷ []) v.asked;
         logged = ap (λ (z : List ℕ). z ++ sent) v.logged;
         shared = (ap (λ (z : List ℕ). room_for c (n - length z)) (sym v.logged), v.shared);
-        served = Ends.Served.then r v.served d.step d.ranged d.head;
+        served = Ends.CallsOn.then r v.served d.step d.ranged d.head;
       }

@@ -42,10 +42,10 @@ pub record Ticks {H : Type 0} {h : HeadGhosts H} {l : LookGhosts H}
 
 -- The calls from end x to another, by values: each is a step, over which the head went through the calls of its deed. The newest
 -- record stands first.
-pub data Served {H : Type 0} {h : HeadGhosts H} {l : LookGhosts H} (x : End H h l) : List Record → End H h l → Type 0 where
-  none : Served x [] x
-  then : {rs : List Record} {x' x'' : End H h l} (r : Record) → Served x rs x' →
-      Step (state x') r (state x'') → InRange (state x'') → HeadOver (deed_of (state x') r) x' x'' → Served x (r ∷ rs) x''
+pub data CallsOn {H : Type 0} {h : HeadGhosts H} {l : LookGhosts H} (x : End H h l) : List Record → End H h l → Type 0 where
+  none : CallsOn x [] x
+  then : {rs : List Record} {x' x'' : End H h l} (r : Record) → CallsOn x rs x' →
+      Step (state x') r (state x'') → InRange (state x'') → HeadOver (deed_of (state x') r) x' x'' → CallsOn x (r ∷ rs) x''
 
 -- What calls are made of.
 

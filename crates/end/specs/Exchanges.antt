@@ -137,14 +137,14 @@ pan_to a b c d rest = 0x81 ∷ 0x01 ∷ 0x06 ∷ 0x02 ∷ 0x18 ∷ 0x14 ∷ a �
 abbrev zoom_given : ℕ → Effects
 zoom_given pace = gives 1 (to Zoom (pos 4096) ∷ to ZoomDrive (pos 0) ∷ []) (paces pace 0 0) ack_1
 
-abbrev alone : List ℕ → Effects → Exchange
-alone p e = record { address = 1; packets = (p, e) ∷ []; leaves = 1 }
+abbrev one_packet : List ℕ → Effects → Exchange
+one_packet p e = record { address = 1; packets = (p, e) ∷ []; leaves = 1 }
 
 abbrev at_one : List (List ℕ × Effects) → Exchange
 at_one ps = record { address = 1; packets = ps; leaves = 1 }
 
-abbrev moved : ℕ → List (List ℕ × Effects) → ℕ → Exchange
-moved a ps w = record { address = a; packets = ps; leaves = w }
+abbrev leaving : ℕ → List (List ℕ × Effects) → ℕ → Exchange
+leaving a ps w = record { address = a; packets = ps; leaves = w }
 
 -- pan -5,120 with tilt 1,280
 abbrev pan_given : Effects
@@ -185,24 +185,24 @@ cancelled_twice =
 abbrev pub exchanges : List Exchange
 exchanges =
     -- zoom 1000 without a speed is 4,096 at lens pace 4; with speed 2 it is 4,096 at pace 3
-    alone zoom (zoom_given 4)
-    ∷ alone (0x81 ∷ 0x01 ∷ 0x04 ∷ 0x47 ∷ 0x02 ∷ 0x01 ∷ 0x00 ∷ 0x00 ∷ 0x00 ∷ 0xff ∷ []) (zoom_given 3)
+    one_packet zoom (zoom_given 4)
+    ∷ one_packet (0x81 ∷ 0x01 ∷ 0x04 ∷ 0x47 ∷ 0x02 ∷ 0x01 ∷ 0x00 ∷ 0x00 ∷ 0x00 ∷ 0xff ∷ []) (zoom_given 3)
     -- zoom 4000 is admitted, and 4001 is not
-    ∷ alone (zoom_to 4 0 0 0) (gives 1 (to Zoom (pos 16384) ∷ to ZoomDrive (pos 0) ∷ []) (paces 4 0 0) ack_1)
-    ∷ alone (zoom_to 4 0 0 1) (tells (fault_code 7 layer.Row 4) syntax)
+    ∷ one_packet (zoom_to 4 0 0 0) (gives 1 (to Zoom (pos 16384) ∷ to ZoomDrive (pos 0) ∷ []) (paces 4 0 0) ack_1)
+    ∷ one_packet (zoom_to 4 0 0 1) (tells (fault_code 7 layer.Row 4) syntax)
     -- pan -5,120 is admitted, and a pan one below is not
-    ∷ alone (pan_to 0x0e 0x0c 0 0 (0xff ∷ [])) pan_given
-    ∷ alone (pan_to 0x0e 0x0b 0x0f 0x0f (0xff ∷ [])) (tells (fault_code 7 layer.Row 4) syntax)
+    ∷ one_packet (pan_to 0x0e 0x0c 0 0 (0xff ∷ [])) pan_given
+    ∷ one_packet (pan_to 0x0e 0x0b 0x0f 0x0f (0xff ∷ [])) (tells (fault_code 7 layer.Row 4) syntax)
     -- sixteen bytes that end in FF are whole, here of a row that has fewer operands; with another last byte they are too
     -- long, which is not answered
-    ∷ alone (pan_to 0x0e 0x0c 0 0 (0x00 ∷ 0xff ∷ [])) (tells (fault_code 7 layer.Row 4) syntax)
-    ∷ alone (pan_to 0x0e 0x0c 0 0 (0x00 ∷ 0x00 ∷ [])) (tells (fault_code 4 layer.Framing 15) [])
+    ∷ one_packet (pan_to 0x0e 0x0c 0 0 (0x00 ∷ 0xff ∷ [])) (tells (fault_code 7 layer.Row 4) syntax)
+    ∷ one_packet (pan_to 0x0e 0x0c 0 0 (0x00 ∷ 0x00 ∷ [])) (tells (fault_code 4 layer.Framing 15) [])
     -- address 7 is set, and the next end is offered 8; 8 is no address, and is sent on
-    ∷ moved 1 ((address_to 7, only_sends (address_to 8)) ∷ []) 7
-    ∷ moved 1 ((address_to 8, only_sends (address_to 8)) ∷ []) 1
-    ∷ moved 0 ((address_to 7, only_sends (address_to 8)) ∷ []) 7
-    ∷ moved 0 ((address_to 8, only_sends (address_to 8)) ∷ []) 0
-    ∷ moved 0 asked_at_seven 7
+    ∷ leaving 1 ((address_to 7, only_sends (address_to 8)) ∷ []) 7
+    ∷ leaving 1 ((address_to 8, only_sends (address_to 8)) ∷ []) 1
+    ∷ leaving 0 ((address_to 7, only_sends (address_to 8)) ∷ []) 7
+    ∷ leaving 0 ((address_to 8, only_sends (address_to 8)) ∷ []) 0
+    ∷ leaving 0 asked_at_seven 7
     ∷ at_one third_refused
     ∷ at_one zoom_displaced
     ∷ at_one cancelled_twice

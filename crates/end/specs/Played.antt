@@ -2,7 +2,7 @@
 use Rattle.std.specs.Prelude.{◌≡◌, ℕ, ◌-◌, List, [], ◌∷◌, length}
 use Rattle.end.specs.declared.call.Call.{Call}
 use Rattle.end.specs.declared.end.End.{End}
-use Rattle.end.specs.Ends.{HeadOver, Served, TakesOver}
+use Rattle.end.specs.Ends.{HeadOver, CallsOn, TakesOver}
 use Rattle.end.specs.Faults.{Answer}
 use Rattle.end.specs.Law.{Lawful}
 use Rattle.end.specs.Records.{Record, record_of, calls_of, sent_by, room_for}
@@ -34,7 +34,7 @@ pub record PlayedOn {H : Type 0} {h : HeadGhosts H} {l : LookGhosts H}
   pub asked : calls_of run ≡ calls
   pub logged : sent_by run ≡ bytes
   pub shared : Shared n run
-  pub served : Served x run x'
+  pub served : CallsOn x run x'
 
 -- the same of an end just made of a head, which had both slots dropped
 pub record PlayedFrom {H : Type 0} {h : HeadGhosts H} {l : LookGhosts H}

@@ -1,7 +1,7 @@
 //! Why a call was refused, or what is wrong with what it was given.
 
 ghost use Rattle.std.specs.Prelude.{◌≡◌};
-ghost use Rattle.end.specs.Faults.{cause_code, count_told, with_reply, without_reply};
+ghost use Rattle.end.specs.Faults.{count_told};
 
 use fault::{FaultCode, Layer};
 use rows::PacketFault;
@@ -29,6 +29,8 @@ pub struct Fault {
 }
 
 impl From<FramingFault> for Fault {
+    ghost use Rattle.end.specs.Faults.{without_reply};
+
     ghost from_gives = { λ e r. r ≡ without_reply e };
 
     fn from(fault: FramingFault) -> Fault {
@@ -41,6 +43,8 @@ impl From<FramingFault> for Fault {
 
 // Such a packet is answered: the reply's bytes are counted.
 impl From<PacketFault> for Fault {
+    ghost use Rattle.end.specs.Faults.{with_reply};
+
     ghost from_gives = { λ e r. r ≡ with_reply e };
 
     fn from(fault: PacketFault) -> Fault {
@@ -53,6 +57,8 @@ impl From<PacketFault> for Fault {
 
 // The fault of a lower layer is passed on whole.
 impl From<Fault> for FaultCode {
+    ghost use Rattle.end.specs.Faults.{cause_code};
+
     ghost from_gives = { λ fault code. code ≡ cause_code fault.cause };
 
     fn from(fault: Fault) -> FaultCode {

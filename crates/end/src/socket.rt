@@ -1,9 +1,7 @@
 //! The two sockets, in which commands are at work.
 
 ghost use Rattle.std.specs.Prelude.{◌≡◌, Some, None};
-ghost use Rattle.end.specs.Deeds.{other as other_of, settled, sockets_after, ticks};
-ghost use Rattle.end.specs.Sockets.{is_open, socket_number as number_of, socket_numbered, socket_at, with_socket, finds_room, free as free_of, powering_in};
-ghost use Rattle.head.specs.Meaning.{in_use, lent};
+ghost use Rattle.end.specs.Deeds.{settled};
 
 use head::{Ending, Endings, Order};
 use rules::powers_on;
@@ -40,6 +38,9 @@ pub(crate) enum Which {
 }
 
 impl Which {
+    ghost use Rattle.end.specs.Deeds.{other as other_of};
+    ghost use Rattle.end.specs.Sockets.{socket_number, socket_numbered};
+
     /// The socket with this number on the line, if there is one.
     pub(crate) fn numbered(number: u8) -> Option<Which>
         ensures { result ≡ socket_numbered number }
@@ -53,13 +54,13 @@ impl Which {
 
     /// Its number, on the line and at the head.
     pub(crate) fn number(self) -> u8
-        ensures { result ≡ number_of self }
+        ensures { result ≡ socket_number self }
     {
         self as u8
     }
 
     pub(crate) fn other(self) -> Which
-        ensures { number_of result ≡ other_of (number_of self) }
+        ensures { socket_number result ≡ other_of (socket_number self) }
     {
         match self {
             Which::One => Which::Two,
@@ -78,6 +79,10 @@ fn settle(socket: &mut Option<Order>, ending: Option<Ending>)
 }
 
 impl Sockets {
+    ghost use Rattle.end.specs.Deeds.{sockets_after, ticks};
+    ghost use Rattle.end.specs.Sockets.{finds_room, free as free_of, is_open, powering_in, socket_at, socket_number, with_socket};
+    ghost use Rattle.head.specs.Meaning.{in_use, lent};
+
     /// Both closed.
     pub const CLOSED: Sockets = Sockets {
         one: None,
@@ -85,7 +90,7 @@ impl Sockets {
     };
 
     pub(crate) fn get(&self, which: Which) -> Option<&Order>
-        ensures { lent result ≡ socket_at self.now (number_of which) }
+        ensures { lent result ≡ socket_at self.now (socket_number which) }
     {
         match which {
             Which::One => self.one.as_ref(),
@@ -95,7 +100,7 @@ impl Sockets {
 
     /// Opens this socket, with the order of its command.
     pub(crate) fn fill(&mut self, which: Which, order: &Order)
-        ensures { self.new ≡ with_socket self.old (number_of which) (Some order.now) }
+        ensures { self.new ≡ with_socket self.old (socket_number which) (Some order.now) }
     {
         match which {
             Which::One => self.one = Some(*order),
@@ -105,7 +110,7 @@ impl Sockets {
 
     /// Closes this socket.
     pub(crate) fn close(&mut self, which: Which)
-        ensures { self.new ≡ with_socket self.old (number_of which) None }
+        ensures { self.new ≡ with_socket self.old (socket_number which) None }
     {
         match which {
             Which::One => self.one = None,
@@ -123,7 +128,7 @@ impl Sockets {
 
     /// Whether the order in a socket names a setting of this one.
     pub(crate) fn shares_setting(&self, which: Which, order: &Order) -> bool
-        ensures { result ≡ in_use (socket_at self.now (number_of which)) order.now }
+        ensures { result ≡ in_use (socket_at self.now (socket_number which)) order.now }
     {
         self.get(which)
             .is_some_and(|held| order.shares_setting(held))
@@ -157,7 +162,7 @@ impl Sockets {
 
     /// The socket that a command gets: 1 if it is closed, else 2.
     pub(crate) fn free(&self) -> Which
-        ensures { number_of result ≡ free_of self.now }
+        ensures { socket_number result ≡ free_of self.now }
     {
         if self.one.is_some() {
             Which::Two
