@@ -3,6 +3,7 @@
 
 #![tactic(auto)]
 
+mod any;
 mod block;
 mod dome;
 mod gear;
@@ -10,5 +11,6 @@ mod geared;
 mod motion;
 mod rig;
 
+pub use any::{AnyHead, HeadKind, NoSuchHead, OneOf};
 pub use block::Block;
 pub use dome::Dome;
