@@ -3,17 +3,14 @@
 
 #![tactic(auto)]
 
+mod any;
 mod block;
 mod dome;
 mod gear;
 mod geared;
-mod job;
 mod motion;
-mod positions;
 mod rig;
-mod slots;
-mod tick;
-mod ticks;
 
+pub use any::{AnyHead, HeadKind, NoSuchHead, OneOf};
 pub use block::Block;
 pub use dome::Dome;

