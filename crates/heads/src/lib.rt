@@ -7,13 +7,8 @@ mod block;
 mod dome;
 mod gear;
 mod geared;
-mod job;
 mod motion;
-mod positions;
 mod rig;
-mod slots;
-mod tick;
-mod ticks;
 
 pub use block::Block;
 pub use dome::Dome;
