@@ -14,6 +14,8 @@ pub struct Dealer {
     pub done: u32,
     pub jammed: u32,
     pub cancelled: u32,
+    /// How often all was cleared.
+    pub cleared: u32,
 }
 
 fn more(count: u32) -> u32 {
@@ -43,6 +45,7 @@ impl Dealer {
             done: 0,
             jammed: 0,
             cancelled: 0,
+            cleared: 0,
         }
     }
 
@@ -71,6 +74,9 @@ impl Dealer {
             [0x90, 0x51] | [0x90, 0x52] => self.done = more(self.done),
             [0x90, 0x61, 0x41] | [0x90, 0x62, 0x41] => self.jammed = more(self.jammed),
             [0x90, 0x61, 0x04] | [0x90, 0x62, 0x04] => self.cancelled = more(self.cancelled),
+            [0x88, 0x30, 0x02] | [0x88, 0x01, 0x00, 0x01] | [0x90, 0x50] => {
+                self.cleared = more(self.cleared)
+            }
             _ => {}
         }
     }

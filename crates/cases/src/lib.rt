@@ -5,6 +5,10 @@
 #[cfg(test)]
 mod answers;
 #[cfg(test)]
+mod counted;
+#[cfg(test)]
+mod counting;
+#[cfg(test)]
 mod dealer;
 #[cfg(test)]
 mod dome;

@@ -4,7 +4,7 @@ use head::{NoSuchSetting, Setting};
 use std::test::Fail;
 
 // A setting's number, its lowest and its highest value.
-pub const SPANS: [(u8, i32, i32); 22] = [
+pub const SPANS: [(u8, i32, i32); Setting::COUNT] = [
     (0, 2, 3),
     (1, 0, 0x4000),
     (2, -8, 8),
@@ -50,7 +50,8 @@ fn gaps(rt: HostRuntime) -> Result<(), Fail> {
         let setting = Setting::try_from(number)?;
         assert!(rt; !setting.admits(value));
     }
-    assert_eq!(rt; Setting::try_from(22), Err(NoSuchSetting(22)));
-    assert_eq!(rt; Setting::try_from(255), Err(NoSuchSetting(255)));
+    for number in [Setting::COUNT as u8, 255] {
+        assert_eq!(rt; Setting::try_from(number), Err(NoSuchSetting(number)));
+    }
     Ok(())
 }

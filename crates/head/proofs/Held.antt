@@ -1,17 +1,13 @@
 -- What is known of what the slots of a head hold, and of the reasons to turn an order down.
-use Rattle.std.proofs.Common.{◌≡◌, ℕ, ◌≤◌, true, ℤ, Bool, Ok, Err, Some, None, Option, Result, OnOk, OnErr, ap, refl, arith}
-use Rattle.head.specs.declared.order.Order.{Order}
+use Rattle.std.proofs.Common.{◌≡◌, ◌≤◌, true, ℤ, Some, None, Option, arith}
 use Rattle.head.specs.declared.outcome.Refusal.{Refusal}
 use Rattle.head.specs.declared.outcome.Refusal.TheVariants.{NoSuchSlot, SlotBusy, OutOfRange, NoPanTilt, SettingInUse}
 use Rattle.head.specs.declared.setting.Setting.{Setting}
-use Rattle.head.specs.declared.work.Ticks.{Ticks}
 use Rattle.head.specs.declared.work.Work.{Work}
-use Rattle.head.specs.declared.works.Works.{Works}
-use Rattle.head.specs.Meaning.{Timed, busy, put, wanted, order_in, refusal_number, reason_given, reason, Started}
+use Rattle.head.specs.Meaning.{Timed, wanted, refusal_number}
 use Rattle.head.specs.Orders.{parts}
 use Rattle.head.specs.Settings.{in_range}
 use Rattle.head.specs.Work.{slot_of}
-use Rattle.head.specs.Works.{slots_of}
 use Rattle.head.proofs.Options.{no_some}
 use Rattle.head.proofs.Wants.{wants_in_range}
 

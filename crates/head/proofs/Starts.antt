@@ -1,6 +1,6 @@
 -- What is known of an order that no reason turns down.
-use Rattle.std.proofs.Common.{◌≡◌, ℕ, Bool, true, false, cond, not, ◌&&◌, ◌||◌, eqb, ◌⊎◌, is_some, Option, inl, inr, ⊎_elim, arith}
-use Rattle.std.proofs.lemmas.Bool.{not-false, or_cases, eqb-true}
+use Rattle.std.proofs.Common.{◌≡◌, ℕ, Bool, true, false, cond, not, ◌&&◌, ◌||◌, eqb, is_some, Option, arith}
+use Rattle.std.proofs.lemmas.Bool.{not-false}
 use Rattle.head.specs.declared.order.Order.{Order}
 use Rattle.head.specs.Orders.{parts, all_in_range, any_pan_tilt}
 use Rattle.head.specs.Meaning.{in_use, reason}

@@ -23,5 +23,5 @@ pub use setting::{Axis, NoSuchSetting, Range, Setting};
 pub use settings::{Admitted, OutOfRange, Settings};
 pub use target::{Target, Targets};
 pub use traits::{Head, Look, value};
-pub use work::{Ticks, Work};
+pub use work::{TicksLeft, Work};
 pub use works::Works;

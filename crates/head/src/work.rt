@@ -7,7 +7,7 @@ use crate::order::Order;
 
 /// 1 to 1,000 ticks: what an order can take.
 #[derive(Clone, Copy, Debug, PartialEq, Eq)]
-pub struct Ticks {
+pub struct TicksLeft {
     pub count: u16,
     ghost some: { 1 ≤ count },
     ghost few: { count ≤ 1000 },
@@ -17,6 +17,6 @@ pub struct Ticks {
 #[derive(Clone, Copy, Debug, PartialEq, Eq)]
 pub struct Work {
     pub order: Order,
-    pub left: Ticks,
+    pub left: TicksLeft,
     ghost fits: { all_in_range (parts order.targets) ≡ true },
 }

@@ -6,7 +6,7 @@ ghost use Rattle.head.specs.Work.{slot_of};
 
 use crate::order::Order;
 use crate::outcome::Refusal;
-use crate::work::{Ticks, Work};
+use crate::work::{TicksLeft, Work};
 
 /// The work of each slot, none where it is idle. No setting is named by both orders.
 #[derive(Clone, Copy, Debug, PartialEq, Eq)]
@@ -102,7 +102,7 @@ impl Works {
         pan_tilt: bool,
         slot: u8,
         order: &Order,
-        ticks: Ticks,
+        ticks: TicksLeft,
     ) -> Result<(), Refusal>
         ensures first_reason { reason_given result
             ≡ reason pan_tilt (order_in (slots_of self.old).one) (order_in (slots_of self.old).two) slot order.now }

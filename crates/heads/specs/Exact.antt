@@ -1,6 +1,6 @@
 -- What our heads do, exactly: the ticks that they choose, every setting after a tick, and how orders end.
 use Rattle.std.specs.Prelude.{◌≡◌, ℕ, ◌+◌, ◌/◌, ◌%◌, min, max, Bool, true, false, if◌then◌else◌, ◌&&◌, ℤ, ◌-ℤ◌}
-use Rattle.std.specs.Prelude.{Some, None, Option, int_le, nat_lt, unsigned_abs}
+use Rattle.std.specs.Prelude.{fold, map, Some, None, Option, int_le, nat_lt, unsigned_abs}
 use Rattle.head.specs.declared.order.Order.{Order}
 use Rattle.head.specs.declared.order.Paces.{Paces}
 use Rattle.head.specs.declared.outcome.Ending.{Ending}
@@ -9,7 +9,7 @@ use Rattle.head.specs.declared.outcome.Endings.{Endings}
 use Rattle.head.specs.declared.setting.Axis.{Axis}
 use Rattle.head.specs.declared.setting.Axis.TheVariants.{Zoom, Focus, Pan, Tilt}
 use Rattle.head.specs.declared.setting.Setting.{Setting}
-use Rattle.head.specs.Settings.{about, position, drive}
+use Rattle.head.specs.Settings.{about, position, drive, axes}
 use Rattle.head.specs.Orders.{parts, wants}
 use Rattle.head.specs.Meaning.{Slot, idle, busy, Slots, Meaning, rest}
 use Rattle.heads.specs.declared.motion.Motion.{Motion}
@@ -31,7 +31,7 @@ ticks_on f o a = ticks_to (step o.paces a) (f (position a)) (wants (parts o.targ
 
 -- the most ticks of the positions that the order names, and at least 1
 abbrev pub longest : (Setting → ℤ) → Order → ℕ
-longest f o = max (ticks_on f o Zoom) (max (ticks_on f o Focus) (max (ticks_on f o Pan) (max (ticks_on f o Tilt) 1)))
+longest f o = fold max 1 (map (ticks_on f o) axes)
 
 abbrev pub ticks_of : Motion → (Setting → ℤ) → Order → ℕ
 ticks_of AtOnce f o = 1

@@ -4,4 +4,3 @@ pub mod Rigs
 pub mod Heads
 pub mod Punctual
 pub mod Geared
-pub mod Any

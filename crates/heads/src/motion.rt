@@ -10,7 +10,7 @@ ghost use Rattle.heads.specs.Motion.{held_to_range as held_to, moved as moved_by
 ghost use Rattle.heads.specs.Exact.{ticks_to as ticks_to_target, longest as longest_of, ticks_of, is_at};
 ghost use Rattle.heads.specs.Rigs.{all_arrive as all_arrive_by};
 
-use head::{Axis, Order, Paces, Range, Settings, Target, Ticks};
+use head::{Axis, Order, Paces, Range, Settings, Target, TicksLeft};
 
 /// How a head moves positions.
 #[derive(Clone, Copy, Debug, PartialEq, Eq)]
@@ -191,14 +191,14 @@ impl Motion {
     /// The ticks that an order takes from where the settings stand. Only an order that no head starts, with a
     /// target out of range, could take more than 1,000.
     #[inline(always)]
-    pub(crate) fn ticks(self, settings: &Settings, order: &Order) -> Ticks
+    pub(crate) fn ticks(self, settings: &Settings, order: &Order) -> TicksLeft
         ensures { result.count ≡ min (ticks_of self (value_of settings.now) order.now) 1000 }
     {
         let count = match self {
             Motion::AtOnce => 1,
             Motion::Stepwise | Motion::Stalled => longest(settings, order),
         };
-        Ticks {
+        TicksLeft {
             count: count.min(1000) as u16,
         }
     }

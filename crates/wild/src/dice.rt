@@ -4,7 +4,7 @@ ghost use Rattle.std.specs.Prelude.{◌≡◌, ◌<◌, max};
 ghost use Rattle.head.specs.Meaning.{Between};
 ghost use Rattle.wild.specs.Dice.{stirred, face};
 
-use head::Ticks;
+use head::TicksLeft;
 use std::marker::Model;
 
 /// A generator of numbers: each is made of the one before it, and the first of the seed.
@@ -64,8 +64,8 @@ impl Dice {
     }
 
     /// The ticks of an order, any that it may take.
-    pub(crate) fn ticks(&mut self) -> Ticks {
-        Ticks {
+    pub(crate) fn ticks(&mut self) -> TicksLeft {
+        TicksLeft {
             count: 1 + self.roll(1000) as u16,
         }
     }

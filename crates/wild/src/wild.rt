@@ -72,9 +72,7 @@ impl Wild {
     // How far the drive of an axis may take its position.
     fn drive_end(&self, axis: Axis) -> i32
         ensures driven { Driven
-            (value_of self.now.settings (drive axis))
-            (value_of self.now.settings (position axis))
-            result }
+            (value_of self.now.settings (drive axis)) (value_of self.now.settings (position axis)) result }
         ensures ranged { in_range (position axis) result ≡ true }
     {
         let from = self.settings.get(axis.position());
@@ -94,12 +92,8 @@ impl Wild {
         setting: Setting,
         dice: &mut Dice,
     ) -> Option<i32>
-        ensures { Leads
-            (wanted (slot_of work.now) setting)
-            (about setting).axis
-            ending
-            (value_of self.now.settings setting)
-            result }
+        ensures { Leads (wanted (slot_of work.now) setting) (about setting).axis ending
+            (value_of self.now.settings setting) result }
     {
         let target = work.as_ref()?.order.target(setting)?;
         let from = self.settings.get(setting);
