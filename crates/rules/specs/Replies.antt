@@ -1,5 +1,7 @@
 -- The replies, as bytes, and bytes as replies.
 use Rattle.std.specs.Prelude.{◌≡◌, ℕ, ◌+◌, ◌-◌, ◌%◌, if◌then◌else◌, ◌&&◌, List, [], ◌∷◌, Ok, Err, Result, ◌==◌, nat_le}
+use Rattle.head.specs.declared.outcome.Ending.{Ending}
+use Rattle.head.specs.declared.outcome.Ending.TheVariants.{Done, Jammed}
 use Rattle.head.specs.Cases.{first_case}
 use Rattle.rules.specs.declared.read.UnknownCode.{UnknownCode}
 use Rattle.rules.specs.declared.read.Unread.{Unread}
@@ -22,6 +24,11 @@ abbrev pub packet : ℕ → Reply → List ℕ
 packet header (Acknowledgement y) = header ∷ (0x40 + y % 16) ∷ 0xff ∷ []
 packet header (Completion y) = header ∷ (0x50 + y % 16) ∷ 0xff ∷ []
 packet header (Error y problem) = header ∷ (0x60 + y % 16) ∷ problem_code problem ∷ 0xff ∷ []
+
+-- what is told of a command's ending in socket y: it is done, or the head jammed
+abbrev pub ending_reply : ℕ → Ending → Reply
+ending_reply y Done = Completion y
+ending_reply y Jammed = Error y NotExecutable
 
 -- the problem that a code stands for
 abbrev pub problem_of : ℕ → Result Problem UnknownCode

@@ -4,6 +4,16 @@ use Rattle.rules.specs.declared.ring.Rule.{Rule}
 use Rattle.rules.specs.declared.ring.Rule.TheVariants.{TakenOff, AddressSet, ClearedForAll, SentOn, Cleared, Cancelled, Requested}
 use Rattle.wire.specs.Packets.{body_of}
 
+-- the rules by number; what is for this end is one rule, the fifth
+abbrev pub rule_number : Rule → ℕ
+rule_number TakenOff = 1
+rule_number (AddressSet w) = 2
+rule_number ClearedForAll = 3
+rule_number SentOn = 4
+rule_number Cleared = 5
+rule_number (Cancelled y) = 5
+rule_number Requested = 5
+
 -- the bytes cs stand in bs from place i on
 abbrev pub stand_at : ℕ → List ℕ → List ℕ → Bool
 stand_at i bs [] = true

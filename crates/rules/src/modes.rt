@@ -1,10 +1,10 @@
-//! What the modes forbid. A row goes by the number of the setting that its order names first.
+//! What the modes forbid. A command goes by its row: the setting that its code stands for.
 
 ghost use Rattle.std.specs.Prelude.{◌≡◌};
 ghost use Rattle.head.specs.Settings.{number};
-ghost use Rattle.rules.specs.Modes.{modes_of, lacks, shuts, forbids, powers_on as powers_on_by, forbidden_by};
+ghost use Rattle.rules.specs.Modes.{modes_of, forbids, powers_on as powers_on_by, forbidden_by};
 
-use head::{Look, Order, Setting, Target, value};
+use head::{Look, Order, Setting, value};
 
 // Values of power and freeze.
 const ON: i32 = 2;
@@ -46,38 +46,29 @@ impl Modes {
         }
     }
 
-    // Whether the row lacks a mode that it needs. Rows go by number, since the rules of the modes do:
-    // they speak of rows 10 to 13 at once.
-    fn lack(self, row: u8, target: i32) -> bool
-        ensures { result ≡ lacks self row target }
+    // Whether the modes forbid a command of this row. Rows go by number, since the rules of the modes do: with freeze
+    // on, they speak of rows 6 to 13 at once.
+    fn forbid(self, row: Setting, order: &Order) -> bool
+        ensures { result ≡ forbids self (number row) order.now }
     {
-        match (row, self.exposure) {
-            (4 | 5, _) => self.focus != MANUAL,
-            (7 | 8, _) => self.white_balance != MANUAL_BALANCE,
-            (9, MANUAL | IRIS) => target == BRIGHT,
-            (10, MANUAL | SHUTTER) | (11, MANUAL | IRIS) | (12, MANUAL) | (13, BRIGHT) => false,
-            (10..=13, _) => true,
+        match (row.number(), self) {
+            (1.., Modes { power: OFF, .. }) => true,
+            (6..=13 | 16, Modes { freeze: ON, .. }) => true,
+            (4 | 5, Modes { focus, .. }) if focus != MANUAL => true,
+            (7 | 8, Modes { white_balance, .. }) if white_balance != MANUAL_BALANCE => true,
+            (
+                9,
+                Modes {
+                    exposure: MANUAL | IRIS,
+                    ..
+                },
+            ) => order.target(Setting::ExposureMode) == Some(BRIGHT),
+            (10, Modes { exposure, .. }) if !matches!(exposure, MANUAL | SHUTTER) => true,
+            (11, Modes { exposure, .. }) if !matches!(exposure, MANUAL | IRIS) => true,
+            (12, Modes { exposure, .. }) if exposure != MANUAL => true,
+            (13, Modes { exposure, .. }) if exposure != BRIGHT => true,
             _ => false,
         }
-    }
-
-    // Whether power or freeze forbids the row.
-    fn shut(self, row: u8) -> bool
-        ensures { result ≡ shuts self row }
-    {
-        match row {
-            1.. if self.power == OFF => true,
-            6..=13 | 16 if self.freeze == ON => true,
-            _ => false,
-        }
-    }
-
-    // Whether the modes forbid an order with this first target.
-    fn forbid(self, first: Target) -> bool
-        ensures { result ≡ forbids self (number first.setting) first.value }
-    {
-        let row = first.setting.number();
-        self.shut(row) || self.lack(row, first.value)
     }
 }
 
@@ -89,11 +80,11 @@ pub fn powers_on(order: &Order) -> bool
 }
 
 /// Whether a command is not to be executed now: power is being switched on, a mode forbids it, or
-/// it needs pan and tilt and there are none.
-pub fn forbidden<L: Look>(from: &L, powering_on: bool, order: &Order) -> bool
-    ensures { result ≡ forbidden_by (L.Look.setting from.now) (L.Look.pantilt from.now) powering_on order.now }
+/// it needs pan and tilt and there are none. Its row is the setting that its code stands for.
+pub fn forbidden<L: Look>(from: &L, powering_on: bool, row: Setting, order: &Order) -> bool
+    ensures { result ≡ forbidden_by (L.Look.setting from.now) (L.Look.pantilt from.now) powering_on row order.now }
 {
     powering_on
-        || Modes::of(from).forbid(order.first())
+        || Modes::of(from).forbid(row, order)
         || (!from.has_pan_tilt() && order.needs_pan_tilt())
 }

@@ -1,9 +1,10 @@
 //! What an end says of itself, as packets: a header, one or two bytes, and FF.
 
 ghost use Rattle.std.specs.Prelude.{◌≡◌, ◌≤◌, length, if◌then◌else◌, Some, None, nat_le};
-ghost use Rattle.rules.specs.Replies.{problem_code, packet};
+ghost use Rattle.rules.specs.Replies.{problem_code, ending_reply, packet};
 ghost use Rattle.wire.specs.Line.{over_at};
 
+use head::Ending;
 use wire::{Bytes, send_at};
 
 /// What is wrong, by VISCA's code.
@@ -42,6 +43,16 @@ impl Problem {
 }
 
 impl Reply {
+    /// What is told of a command's ending in this socket: it is done, or the head jammed.
+    pub fn of_ending(socket: u8, ending: Ending) -> Reply
+        ensures { result ≡ ending_reply socket ending }
+    {
+        match ending {
+            Ending::Done => Reply::Completion(socket),
+            Ending::Jammed => Reply::Error(socket, Problem::NotExecutable),
+        }
+    }
+
     /// The reply's packet.
     pub fn packet(self, header: u8) -> Bytes
         ensures { result ≡ packet header self }

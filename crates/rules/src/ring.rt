@@ -1,7 +1,7 @@
 //! The rules of the ring: what becomes of a whole packet, the first rule that fits.
 
 ghost use Rattle.std.specs.Prelude.{◌≡◌};
-ghost use Rattle.rules.specs.Ring.{address_set, clears_all, for_this_end, rule_of, Bounded};
+ghost use Rattle.rules.specs.Ring.{rule_number, address_set, clears_all, for_this_end, rule_of, Bounded};
 ghost use Rattle.wire.specs.Framing.{bytes_of};
 
 use wire::Packet;
@@ -45,6 +45,20 @@ fn is_clear_for_all(bytes: &[u8]) -> bool
 }
 
 impl Rule {
+    /// The number of the rule, 1 to 5, in the order in which they are tried. What is for this end is one rule, the
+    /// fifth: a clear, a cancel, or a request.
+    pub fn number(self) -> u8
+        ensures { result ≡ rule_number self }
+    {
+        match self {
+            Rule::TakenOff => 1,
+            Rule::AddressSet(_) => 2,
+            Rule::ClearedForAll => 3,
+            Rule::SentOn => 4,
+            Rule::Cleared | Rule::Cancelled(_) | Rule::Requested => 5,
+        }
+    }
+
     /// The rule for a body that is for this end.
     pub fn of_body(body: &[u8]) -> Rule
         ensures { result ≡ for_this_end body.now }
