@@ -1,5 +1,5 @@
 -- The law of the sockets, over runs of any length, over any head.
-use Rattle.std.specs.Prelude.{◌≡◌, ℕ, ◌-◌, ◌<◌, ◌≤◌, Bool, true, false, ◌⊎◌, List, [], ◌∷◌, ◌++◌, length, pos, is_some, Some, None, Ok, Err, Option, Result}
+use Rattle.std.specs.Prelude.{◌≡◌, ℕ, ◌-◌, ◌<◌, ◌≤◌, Bool, true, false, ◌⊎◌, List, [], ◌∷◌, ◌++◌, length, pos, is_some, Some, None, Option}
 use Rattle.std.specs.List.{concat, list_all}
 use Rattle.end.specs.declared.call.Call.{Call}
 use Rattle.end.specs.declared.call.Call.TheVariants.{Byte, Tick, Open}
@@ -14,11 +14,8 @@ use Rattle.head.specs.declared.setting.Setting.{Setting}
 use Rattle.head.specs.Meaning.{Meaning, Slot, order_in}
 use Rattle.head.specs.Orders.{parts, names}
 use Rattle.head.specs.Settings.{position, drive}
-use Rattle.rows.specs.declared.faults.PacketFault.{PacketFault}
-use Rattle.rows.specs.declared.request.Request.{Request}
-use Rattle.rows.specs.declared.request.Request.TheVariants.{Command, Ask}
-use Rattle.rows.specs.Requests.{read_body}
-use Rattle.wire.specs.Packets.{is_packet, body_of}
+use Rattle.rows.specs.Requests.{read_as}
+use Rattle.wire.specs.Packets.{is_packet}
 
 -- A run: an end just made of a head that means m gets calls, refused ones included, and each is a step. The head's settings are
 -- in range all the while, as those of every head are. The newest entry stands first.
@@ -27,15 +24,6 @@ pub data Run (m : Meaning) : List Entry → State → Type 0 where
   then : {h : List Entry} {s s' : State} (e : Entry) (a : Answer) → Run m h s → Step s e.call e.room a e.sent s' → InRange s' → Run m (e ∷ h) s'
 
 -- Agreement.
-
-abbrev pub order_asked : Result Request PacketFault → Option Order
-order_asked (Ok (Command row o)) = Some o
-order_asked (Ok (Ask q)) = None
-order_asked (Err f) = None
-
--- the order that a packet is read as, if any
-abbrev pub read_as : List ℕ → Option Order
-read_as p = order_asked (read_body (body_of p))
 
 abbrev pub open_by : Seen → Bool
 open_by closed = false

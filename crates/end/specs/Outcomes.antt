@@ -16,6 +16,7 @@ use Rattle.rows.specs.declared.faults.PacketFault.{PacketFault}
 use Rattle.rows.specs.declared.request.Request.{Request}
 use Rattle.rows.specs.declared.request.Request.TheVariants.{Command, Ask}
 use Rattle.rows.specs.Answers as inquiry
+use Rattle.rows.specs.Orders.{order_of}
 use Rattle.rows.specs.Requests.{read_body}
 use Rattle.rules.specs.declared.reply.Problem.TheVariants.{Syntax, BufferFull, Cancelled as CancelledCommand, NoSocket, NotExecutable}
 use Rattle.rules.specs.declared.reply.Reply.{Reply}
@@ -61,7 +62,7 @@ commanded a m k o =
     if full k then sends a (own a (Error 0 BufferFull)) else (if forbidden_by m.setting m.pantilt (powering_in k) o then sends a (own a (Error 0 NotExecutable)) else taken a k (free k) o)
 
 abbrev pub requested : ℕ → Meaning → Sockets → Result Request PacketFault → Outcome
-requested a m k (Ok (Command row o)) = commanded a m k o
+requested a m k (Ok (Command row c)) = commanded a m k (order_of c)
 requested a m k (Ok (Ask q)) = sends a (inquiry.answer_packet (own_header a) q m.setting m.pantilt)
 requested a m k (Err f) = fails a (Packet f) (own a (Error 0 Syntax))
 

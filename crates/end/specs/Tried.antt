@@ -4,12 +4,13 @@ use Rattle.end.specs.declared.call.Call.TheVariants.{Byte, Tick, Open}
 use Rattle.end.specs.declared.socket.Sockets.{Sockets}
 use Rattle.end.specs.Book.{Entry, Seen, closed, working, book_of}
 use Rattle.end.specs.Deeds.{sockets_after, both_idle}
-use Rattle.end.specs.Law.{read_as, SlotAgrees, WholePackets, InOrder, InTime, entry}
+use Rattle.end.specs.Law.{SlotAgrees, WholePackets, InOrder, InTime, entry}
 use Rattle.end.specs.Outcomes.{met}
 use Rattle.end.specs.Sockets.{both_closed}
 use Rattle.head.specs.declared.order.Order.{Order}
 use Rattle.head.specs.Meaning.{Meaning, idle, busy}
 use Rattle.head.specs.Settings.{about}
+use Rattle.rows.specs.Requests.{read_as}
 use Rattle.rules.specs.Ring.{rule_of}
 
 -- Packets at an end over a head with pan and tilt and first values; no tick comes between them, so that no setting changes.

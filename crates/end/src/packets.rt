@@ -8,10 +8,8 @@ ghost use Rattle.end.specs.Steps.{Came};
 ghost use Rattle.end.specs.Faults.{answered as answered_of, count_told, counts};
 ghost use Rattle.rules.specs.Modes.{forbidden_by};
 ghost use Rattle.rules.specs.Ring.{rule_of};
-ghost use Rattle.rows.specs.Requests.{as_command, as_inquiry, read_body};
-ghost use Rattle.rows.specs.Commands.{read_command as command_read};
+ghost use Rattle.rows.specs.Requests.{read_body};
 ghost use Rattle.rows.specs.Orders.{order_of};
-ghost use Rattle.rows.specs.Inquiries.{read_inquiry as inquiry_read};
 ghost use Rattle.rules.specs.declared.reply.Reply.TheVariants.{Error};
 ghost use Rattle.rules.specs.declared.reply.Problem.TheVariants.{Syntax};
 ghost use Rattle.end.specs.declared.faults.Cause.TheVariants.{Packet as PacketF};
@@ -22,7 +20,7 @@ use crate::faults::{Cause, Fault};
 use crate::sending::{both, put};
 use crate::socket::Which;
 use head::{Head, Order};
-use rows::{COMMAND, Command, INQUIRY, PacketFault, answer, find_command, read_inquiry};
+use rows::{Command, PacketFault, Request, answer, read};
 use rules::{Problem, Reply, Rule, forbidden};
 use wire::Packet;
 
@@ -119,32 +117,6 @@ impl<H: Head> End<H> {
         }
     }
 
-    // A command, behind its first byte.
-    #[inline(never)]
-    fn commanded(&mut self, rest: &[u8], out: &mut [u8]) -> Result<usize, Fault>
-        requires { 16 ≤ length out.old }
-        ensures came { Came (state self.old) (state self.old).held (requested_by self.old.address (state self.old).head self.old.sockets (as_command (command_read rest.now))) (answered_of result) (take (count_told result) out.new) (state self.new) }
-        ensures untouched { drop (count_told result) out.new ≡ drop (count_told result) out.old }
-    {
-        match find_command(rest) {
-            Ok((_, command)) => Ok(self.command(&command, out)),
-            Err(fault) => Err(self.refuse(fault.into(), out)),
-        }
-    }
-
-    // An inquiry, behind its first byte.
-    #[inline(always)]
-    fn asked(&mut self, rest: &[u8], out: &mut [u8]) -> Result<usize, Fault>
-        requires { 16 ≤ length out.old }
-        ensures came { Came (state self.old) (state self.old).held (requested_by self.old.address (state self.old).head self.old.sockets (as_inquiry (inquiry_read rest.now))) (answered_of result) (take (count_told result) out.new) (state self.new) }
-        ensures untouched { drop (count_told result) out.new ≡ drop (count_told result) out.old }
-    {
-        match read_inquiry(rest) {
-            Ok((_, inquiry)) => Ok(answer(&self.head, inquiry, self.own_header(), out).unwrap()),
-            Err(fault) => Err(self.refuse(fault.into(), out)),
-        }
-    }
-
     // A body that the rows read, or say what is wrong with.
     #[inline(always)]
     fn request(&mut self, body: &[u8], out: &mut [u8]) -> Result<usize, Fault>
@@ -152,10 +124,12 @@ impl<H: Head> End<H> {
         ensures came { Came (state self.old) (state self.old).held (requested_by self.old.address (state self.old).head self.old.sockets (read_body body.now)) (answered_of result) (take (count_told result) out.new) (state self.new) }
         ensures untouched { drop (count_told result) out.new ≡ drop (count_told result) out.old }
     {
-        match body {
-            [COMMAND, rest @ ..] => self.commanded(rest, out),
-            [INQUIRY, rest @ ..] => self.asked(rest, out),
-            _ => Err(self.refuse(PacketFault::UnknownBody, out)),
+        match read(body) {
+            Ok(Request::Command(_, command)) => Ok(self.command(&command, out)),
+            Ok(Request::Ask(inquiry)) => {
+                Ok(answer(&self.head, inquiry, self.own_header(), out).unwrap())
+            }
+            Err(fault) => Err(self.refuse(fault, out)),
         }
     }
 

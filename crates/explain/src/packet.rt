@@ -20,7 +20,7 @@ impl fmt::Display for InWords<Inquiry> {
 impl fmt::Display for InWords<Request> {
     fn fmt<W: fmt::Write>(&self, f: &mut fmt::Formatter<W>) -> fmt::Result {
         match self.0 {
-            Request::Command(_, order) => InWords(order).fmt(f),
+            Request::Command(_, command) => InWords(command.order()).fmt(f),
             Request::Ask(inquiry) => InWords(inquiry).fmt(f),
         }
     }

@@ -122,11 +122,11 @@ by_one_row k c os (Some p) e h =
     record { place = h.0; order = o; only = λ j l s. one_row p.0 j (k ∷ c ∷ os) (order_of p.1) h.0 l o s }
 
 -- a command is read as an order exactly when one row admits it
-pub read_by_one_row : (body : List ℕ) → ByOneRow body (read_command body)
+pub read_by_one_row : (body : List ℕ) → ByOneRow body (with_order (read_command body))
 unfolding read_command
 read_by_one_row [] = λ j h. refl
 read_by_one_row (k ∷ []) = λ j h. refl
 read_by_one_row (k ∷ c ∷ os) = by_one_row k c os _ _ (first_is (row_meaning row_has (row_reads reads) k c os) (row_at 12) commands)
 
-pub as_read : (body : List ℕ) (r : Result (ℕ × Order) RowFault) → r ≡ read_command body → ByOneRow body r
+pub as_read : (body : List ℕ) (r : Result (ℕ × Order) RowFault) → r ≡ with_order (read_command body) → ByOneRow body r
 as_read body r e = subst (ByOneRow body) (sym e) (read_by_one_row body)

@@ -1,5 +1,5 @@
 -- Whatever the command rows make of a packet has every target in range.
-use Rattle.std.proofs.Common.{◌≡◌, ℕ, Bool, true, false, cond, eqb, List, [], ◌∷◌, IfSome, IfOk, Some, None, Ok, Err, Option, Result, refl, length, slice_index, subst}
+use Rattle.std.proofs.Common.{◌≡◌, ℕ, Bool, true, false, cond, eqb, List, [], ◌∷◌, IfSome, IfOk, Some, None, Ok, Err, Option, Result, length, slice_index, subst}
 use Rattle.std.proofs.lemmas.Bool.{cond_both}
 use Rattle.std.proofs.lemmas.Result.{MatchResult-weaker}
 use Rattle.std.specs.Option.{option_map}
@@ -11,15 +11,15 @@ use Rattle.rows.specs.declared.command.Command.{Command}
 use Rattle.rows.specs.declared.faults.PacketFault.{PacketFault}
 use Rattle.rows.specs.declared.faults.PacketFault.TheVariants.{UnknownBody}
 use Rattle.rows.specs.declared.faults.RowFault.{RowFault}
-use Rattle.rows.specs.declared.inquiries.Inquiry.{Inquiry}
+use Rattle.rows.specs.declared.inquiry.Inquiry.{Inquiry}
 use Rattle.rows.specs.declared.operands.Operands.{Operands}
-use Rattle.rows.specs.declared.operands.Operands.TheVariants.{Digit, Drive, Position, PositionAtSpeed, Level, Number, PanTiltDrive, PanTilt, Home}
+use Rattle.rows.specs.declared.operands.Operands.TheVariants.{Digit, LensDrive, Position, PositionAtSpeed, Level, Number, PanTiltDrive, PanTiltPosition, Home}
 use Rattle.rows.specs.declared.operands.Sense.TheVariants.{Up, Down}
 use Rattle.rows.specs.declared.request.Request.{Request}
 use Rattle.rows.specs.declared.request.Request.TheVariants as request
 use Rattle.rows.specs.declared.table.TableRow.{TableRow}
 use Rattle.rows.specs.Codes.{setting_of}
-use Rattle.rows.specs.Commands.{read_command}
+use Rattle.rows.specs.Commands.{with_order, read_command}
 use Rattle.rows.specs.Digits.{from_digits}
 use Rattle.rows.specs.Inquiries.{read_inquiry}
 use Rattle.rows.specs.OneRow.{row_at, admitted_by, ReadByOne}
@@ -60,13 +60,13 @@ placed_in_range p xs ys = bind_in_range (from_digits xs) _ (λ x. bind_in_range 
 
 means_in_range : (f : Operands) (s : Setting) (os : List ℕ) → InRange (operands_mean f s os)
 means_in_range Digit s os = cond_in_range _ _ (ranged_in_range _)
-means_in_range (Drive e) s os = bind_in_range _ _ (λ d. ranged_in_range _)
+means_in_range (LensDrive e) s os = bind_in_range _ _ (λ d. ranged_in_range _)
 means_in_range (Position a lens) s os = bind_in_range _ _ (λ n. ranged_in_range _)
 means_in_range (PositionAtSpeed a) s os = cond_in_range _ _ (bind_in_range _ _ (λ n. ranged_in_range _))
 means_in_range Level s os = cond_in_range _ _ (ranged_in_range _)
 means_in_range Number s os = bind_in_range _ _ (λ n. ranged_in_range _)
 means_in_range PanTiltDrive s os = bind_in_range (turning (slice_index os 0) (slice_index os 1)) _ (λ p. driven_in_range p (slice_index os 2) (slice_index os 3))
-means_in_range PanTilt s os = bind_in_range (turning (slice_index os 0) (slice_index os 1)) _ (λ p. placed_in_range p (four 2 os) (four 6 os))
+means_in_range PanTiltPosition s os = bind_in_range (turning (slice_index os 0) (slice_index os 1)) _ (λ p. placed_in_range p (four 2 os) (four 6 os))
 means_in_range Home s os = ranged_in_range _
 
 reads_in_range : (f : Operands) (s : Setting) (os : List ℕ) → InRange (reads f s os)
@@ -85,19 +85,19 @@ admitted_in_range i [] = tt
 admitted_in_range i (k ∷ []) = tt
 admitted_in_range i (k ∷ c ∷ os) = order_in_range _ (row_in_range (row_at i) k c os)
 
-read_in_range : (body : List ℕ) → IfOk (read_command body) (λ p. OrderInRange p.1)
+read_in_range : (body : List ℕ) → IfOk (with_order (read_command body)) (λ p. OrderInRange p.1)
 read_in_range body =
-    MatchResult-weaker (read_command body) (read_by_one_row body)
+    MatchResult-weaker (with_order (read_command body)) (read_by_one_row body)
     (λ p (h : ReadByOne body p.0 p.1). subst (λ (x : Option Order). IfSome x OrderInRange) h.order (admitted_in_range p.0 body)) (λ e h. tt)
 
 -- The same for a whole body.
 
 RequestInRange : Result Request PacketFault → Type 0
-RequestInRange (Ok (request.Command i o)) = OrderInRange o
+RequestInRange (Ok (request.Command i c)) = OrderInRange (order_of c)
 RequestInRange (Ok (request.Ask q)) = Unit {0}
 RequestInRange (Err f) = Unit {0}
 
-as_command_in_range : (r : Result (ℕ × Order) RowFault) → IfOk r (λ p. OrderInRange p.1) → RequestInRange (as_command r)
+as_command_in_range : (r : Result (ℕ × Command) RowFault) → IfOk (with_order r) (λ p. OrderInRange p.1) → RequestInRange (as_command r)
 unfolding RequestInRange
 as_command_in_range (Ok p) h = h
 as_command_in_range (Err f) h = tt
@@ -115,6 +115,6 @@ read_body_in_range (t ∷ rest) =
     (λ e. as_command_in_range (read_command rest) (read_in_range rest))
     (λ e. cond_both (eqb t 0x09) (as_inquiry (read_inquiry rest)) (Err UnknownBody) RequestInRange (λ e. as_inquiry_in_range (read_inquiry rest)) (λ e. tt))
 
-pub body_in_range : (body : List ℕ) (i : ℕ) (o : Order) → read_body body ≡ Ok (request.Command i o) → all_in_range (parts o.targets) ≡ true
+pub body_in_range : (body : List ℕ) (i : ℕ) (c : Command) → read_body body ≡ Ok (request.Command i c) → all_in_range (parts (order_of c).targets) ≡ true
 unfolding RequestInRange
-body_in_range body i o e = subst RequestInRange e (read_body_in_range body)
+body_in_range body i c e = subst RequestInRange e (read_body_in_range body)

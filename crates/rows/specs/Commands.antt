@@ -7,7 +7,7 @@ use Rattle.rows.specs.declared.codes.Codes.TheVariants.{One, Modes, Levels}
 use Rattle.rows.specs.declared.command.Command.{Command}
 use Rattle.rows.specs.declared.faults.RowFault.{RowFault}
 use Rattle.rows.specs.declared.operands.Operands.{Operands}
-use Rattle.rows.specs.declared.operands.Operands.TheVariants.{Digit, Drive, Position, PositionAtSpeed, Level, Number, PanTiltDrive, PanTilt, Home}
+use Rattle.rows.specs.declared.operands.Operands.TheVariants.{Digit, LensDrive, Position, PositionAtSpeed, Level, Number, PanTiltDrive, PanTiltPosition, Home}
 use Rattle.rows.specs.declared.operands.Sense.TheVariants.{Up, Down}
 use Rattle.rows.specs.declared.table.TableRow.{TableRow}
 use Rattle.rows.specs.Orders.{order_of}
@@ -18,8 +18,8 @@ use Rattle.rows.specs.Search.{found}
 abbrev pub commands : List (TableRow Operands)
 commands =
     row 0x04 (One 0x00 Power) Digit
-    ∷ row 0x04 (One 0x07 ZoomDrive) (Drive Up)
-    ∷ row 0x04 (One 0x08 FocusDrive) (Drive Down)
+    ∷ row 0x04 (One 0x07 ZoomDrive) (LensDrive Up)
+    ∷ row 0x04 (One 0x08 FocusDrive) (LensDrive Down)
     ∷ row 0x04 (One 0x47 Zoom) (Position axis.Zoom 4)
     ∷ row 0x04 (One 0x47 Zoom) (PositionAtSpeed axis.Zoom)
     ∷ row 0x04 (One 0x48 Focus) (Position axis.Focus 4)
@@ -27,15 +27,15 @@ commands =
     ∷ row 0x04 Levels Level
     ∷ row 0x04 (One 0x22 Identity) Number
     ∷ row 0x06 (One 0x01 PanDrive) PanTiltDrive
-    ∷ row 0x06 (One 0x02 Pan) PanTilt
+    ∷ row 0x06 (One 0x02 Pan) PanTiltPosition
     ∷ row 0x06 (One 0x04 Pan) Home
     ∷ []
 
--- with the order that a command is
+-- what a command is read as, behind its first byte, with its row's place; shut, since the table is long
+unfoldable pub read_command : List ℕ → Result (ℕ × Command) RowFault
+read_command body = found row_has (row_reads reads) commands body
+
+-- the same, with the order that the command is
 abbrev pub with_order : Result (ℕ × Command) RowFault → Result (ℕ × Order) RowFault
 with_order (Ok p) = Ok (p.0, order_of p.1)
 with_order (Err e) = Err e
-
--- what a command is read as, behind its first byte; shut, since the table is long
-unfoldable pub read_command : List ℕ → Result (ℕ × Order) RowFault
-read_command body = with_order (found row_has (row_reads reads) commands body)

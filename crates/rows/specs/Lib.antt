@@ -6,6 +6,7 @@ pub mod Orders
 pub mod Reading
 pub mod Rows
 pub mod Commands
+pub mod Forms
 pub mod Inquiries
 pub mod Requests
 pub mod Answers

@@ -10,7 +10,7 @@ use Rattle.head.specs.Orders.{parts, all_in_range}
 use Rattle.rows.specs.declared.command.Command.{Command}
 use Rattle.rows.specs.declared.command.Command.TheVariants as says
 use Rattle.rows.specs.declared.operands.Operands.{Operands}
-use Rattle.rows.specs.declared.operands.Operands.TheVariants.{Digit, Drive, Position, PositionAtSpeed, Level, Number, PanTiltDrive, PanTilt, Home}
+use Rattle.rows.specs.declared.operands.Operands.TheVariants.{Digit, LensDrive, Position, PositionAtSpeed, Level, Number, PanTiltDrive, PanTiltPosition, Home}
 use Rattle.rows.specs.declared.operands.Sense.{Sense}
 use Rattle.rows.specs.declared.operands.Sense.TheVariants.{Up, Down}
 use Rattle.rows.specs.Digits.{from_digits, signed}
@@ -49,7 +49,7 @@ abbrev pub lens_driven : Sense → Setting → ℕ → Option Command
 lens_driven e s b = option_and_then (λ d. alone s (turned e d)) (pushed b)
 
 abbrev pub placed : Axis → ℕ → List ℕ → Option Command
-placed a lens ds = option_and_then (λ n. ranged (says.Place (record { axis = a; lens = lens; position = pos n }))) (from_digits ds)
+placed a lens ds = option_and_then (λ n. ranged (says.Position (record { axis = a; lens = lens; position = pos n }))) (from_digits ds)
 
 abbrev pub placed_at : Axis → ℕ → List ℕ → Option Command
 placed_at a n ds = if nat_le n 7 then placed a (n + 1) ds else None
@@ -73,10 +73,10 @@ steered e d n =
     first_case ((d == 1, Some (turned e (neg_ℤ (pos n)))) ∷ (d == 2, Some (turned e (pos n))) ∷ (d == 3, Some (pos 0)) ∷ []) None
 
 abbrev pub pan_tilt_driven : Paces → ℕ → ℕ → Option Command
-pan_tilt_driven p d e = option_and_then (λ x. option_and_then (λ y. ranged (says.Drive (record { pan = x; tilt = y; paces = p }))) (steered Down e p.tilt)) (steered Up d p.pan)
+pan_tilt_driven p d e = option_and_then (λ x. option_and_then (λ y. ranged (says.PanTiltDrive (record { pan = x; tilt = y; paces = p }))) (steered Down e p.tilt)) (steered Up d p.pan)
 
 abbrev pub pan_tilt : Paces → ℤ → ℤ → Option Command
-pan_tilt p x y = ranged (says.Turn (record { pan = x; tilt = y; paces = p }))
+pan_tilt p x y = ranged (says.PanTiltPosition (record { pan = x; tilt = y; paces = p }))
 
 abbrev pub pan_tilt_placed : Paces → List ℕ → List ℕ → Option Command
 pan_tilt_placed p xs ys = option_and_then (λ x. option_and_then (λ y. pan_tilt p (signed x) (signed y)) (from_digits ys)) (from_digits xs)
@@ -89,13 +89,13 @@ home = pan_tilt (paces 0 24 20) (pos 0) (pos 0)
 -- how many bytes a form has
 abbrev pub operand_count : Operands → ℕ
 operand_count Digit = 1
-operand_count (Drive e) = 1
+operand_count (LensDrive e) = 1
 operand_count (Position a lens) = 4
 operand_count (PositionAtSpeed a) = 5
 operand_count Level = 4
 operand_count Number = 4
 operand_count PanTiltDrive = 4
-operand_count PanTilt = 10
+operand_count PanTiltPosition = 10
 operand_count Home = 0
 
 -- four bytes from a place on
@@ -105,13 +105,13 @@ four i os = slice_index os i ∷ slice_index os (i + 1) ∷ slice_index os (i + 
 -- what a form makes of so many bytes, where its code stands for a setting
 abbrev pub operands_mean : Operands → Setting → List ℕ → Option Command
 operands_mean Digit s os = digit s (slice_index os 0)
-operands_mean (Drive e) s os = lens_driven e s (slice_index os 0)
+operands_mean (LensDrive e) s os = lens_driven e s (slice_index os 0)
 operands_mean (Position a lens) s os = placed a lens (four 0 os)
 operands_mean (PositionAtSpeed a) s os = placed_at a (slice_index os 0) (four 1 os)
 operands_mean Level s os = level s (four 0 os)
 operands_mean Number s os = four_digits s (four 0 os)
 operands_mean PanTiltDrive s os = option_and_then (λ p. pan_tilt_driven p (slice_index os 2) (slice_index os 3)) (turning (slice_index os 0) (slice_index os 1))
-operands_mean PanTilt s os = option_and_then (λ p. pan_tilt_placed p (four 2 os) (four 6 os)) (turning (slice_index os 0) (slice_index os 1))
+operands_mean PanTiltPosition s os = option_and_then (λ p. pan_tilt_placed p (four 2 os) (four 6 os)) (turning (slice_index os 0) (slice_index os 1))
 operands_mean Home s os = home
 
 -- what a form makes of operands: nothing, unless there are just so many bytes

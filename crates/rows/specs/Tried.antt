@@ -5,9 +5,10 @@ use Rattle.head.specs.declared.setting.Setting.TheVariants.{Zoom, ZoomDrive, Pan
 use Rattle.head.specs.declared.target.Target.{Target}
 use Rattle.head.specs.Orders.{parts}
 use Rattle.rows.specs.declared.faults.PacketFault.{PacketFault}
-use Rattle.rows.specs.declared.inquiries.Inquiry.{Inquiry}
+use Rattle.rows.specs.declared.inquiry.Inquiry.{Inquiry}
 use Rattle.rows.specs.declared.request.Request.{Request}
 use Rattle.rows.specs.declared.request.Request.TheVariants.{Command, Ask}
+use Rattle.rows.specs.Orders.{order_of}
 use Rattle.rows.specs.Requests as packets
 use Rattle.fault.specs.declared.code.FaultCode.{FaultCode}
 use Rattle.fault.specs.declared.code.Layer.TheVariants as layer
@@ -31,7 +32,9 @@ targets [] = []
 targets (t ∷ ts) = target t ∷ targets ts
 
 abbrev read : Result Request PacketFault → TriedAs
-read (Ok (Command row o)) = order (targets (parts o.targets)) o.paces.lens o.paces.pan o.paces.tilt
+read (Ok (Command row c)) =
+    let o = order_of c in
+    order (targets (parts o.targets)) o.paces.lens o.paces.pan o.paces.tilt
 read (Ok (Ask q)) = inquiry q
 read (Err f) = faulty (packets.packet_code f)
 

@@ -1,13 +1,10 @@
 //! Inquiries answered, from whatever can be looked at.
 
 ghost use Rattle.std.specs.Prelude.{◌≡◌};
-ghost use Rattle.rows.specs.Answers.{looked_digits, answer_looked, sent as sent_into, count_of};
-ghost use Rattle.rows.specs.Inquiries.{asks};
-ghost use Rattle.head.specs.declared.setting.Setting.TheVariants.{Pan};
-ghost use Rattle.rows.specs.declared.inquiries.Form.TheVariants.{PanTilt};
+ghost use Rattle.rows.specs.Answers.{looked_digits, answer_looked, pan_tilt_looked, sent as sent_into, count_of};
 
 use crate::digits::digits;
-use crate::inquiries::{Form, Inquiry};
+use crate::inquiry::{Form, Inquiry};
 use head::{Look, Setting, value};
 use wire::send_at;
 
@@ -21,8 +18,8 @@ fn shown<L: Look>(from: &L, setting: Setting) -> [u8; 4]
 // Pan and tilt in eight digits, or error 41 without them.
 #[inline(always)]
 fn answer_pan_tilt<L: Look>(from: &L, header: u8, out: &mut [u8]) -> Option<usize>
-    ensures count { result ≡ count_of (answer_looked L.Look from.now header (asks Pan PanTilt)) out.old }
-    ensures sent { out.new ≡ sent_into (answer_looked L.Look from.now header (asks Pan PanTilt)) out.old }
+    ensures count { result ≡ count_of (pan_tilt_looked L.Look from.now header) out.old }
+    ensures sent { out.new ≡ sent_into (pan_tilt_looked L.Look from.now header) out.old }
 {
     if !from.has_pan_tilt() {
         return send_at(out, 0, &[header, 0x60, 0x41, 0xff]);

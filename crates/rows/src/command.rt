@@ -2,13 +2,13 @@
 
 ghost use Rattle.std.specs.Prelude.{◌≡◌};
 ghost use Rattle.head.specs.Orders.{parts, all_in_range};
-ghost use Rattle.rows.specs.Orders.{to as target_of, order_of};
+ghost use Rattle.rows.specs.Orders.{to as target_of, order_of, subject as subject_of};
 
 use head::{Axis, Order, Paces, Setting, Target, Targets};
 
-/// Zoom or focus is to go to a position.
+/// Zoom or focus, at a lens pace, and the position that it is to have.
 #[derive(Clone, Copy, Debug, PartialEq, Eq)]
-pub struct Place {
+pub struct LensPosition {
     pub axis: Axis,
     pub lens: u8,
     pub position: i32,
@@ -16,7 +16,7 @@ pub struct Place {
 
 /// Values of pan and tilt, or of their drives, and the paces.
 #[derive(Clone, Copy, Debug, PartialEq, Eq)]
-pub struct PanTilt {
+pub struct PanTiltMove {
     pub pan: i32,
     pub tilt: i32,
     pub paces: Paces,
@@ -28,11 +28,11 @@ pub enum Command {
     /// A setting alone is to get a value.
     Set(Target),
     /// Zoom or focus is to go to a position at a lens pace, and its drive is to stop.
-    Place(Place),
+    Position(LensPosition),
     /// The drives of pan and tilt are to get values.
-    Drive(PanTilt),
+    PanTiltDrive(PanTiltMove),
     /// Pan and tilt are to go to positions, and their drives are to stop.
-    Turn(PanTilt),
+    PanTiltPosition(PanTiltMove),
 }
 
 /// No pace.
@@ -57,11 +57,25 @@ impl Command {
         match self {
             Command::Set(target) => target.setting.admits(target.value),
             // A drive may always be stopped.
-            Command::Place(place) => place.axis.position().admits(place.position),
-            Command::Drive(to) => {
+            Command::Position(to) => to.axis.position().admits(to.position),
+            Command::PanTiltDrive(to) => {
                 Setting::PanDrive.admits(to.pan) && Setting::TiltDrive.admits(to.tilt)
             }
-            Command::Turn(to) => Setting::Pan.admits(to.pan) && Setting::Tilt.admits(to.tilt),
+            Command::PanTiltPosition(to) => {
+                Setting::Pan.admits(to.pan) && Setting::Tilt.admits(to.tilt)
+            }
+        }
+    }
+
+    /// The setting that the command's code stands for: of a position its own, of pan and tilt that of pan.
+    pub fn subject(&self) -> Setting
+        ensures { result ≡ subject_of self.now }
+    {
+        match self {
+            Command::Set(target) => target.setting,
+            Command::Position(to) => to.axis.position(),
+            Command::PanTiltDrive(_) => Setting::PanDrive,
+            Command::PanTiltPosition(_) => Setting::Pan,
         }
     }
 
@@ -76,21 +90,21 @@ impl Command {
                 targets: Targets::One([target]),
                 paces: STILL,
             },
-            Command::Place(place) => Order {
-                targets: Targets::Two([
-                    to(place.axis.position(), place.position),
-                    to(place.axis.drive(), 0),
-                ]),
-                paces: Paces {
-                    lens: place.lens,
-                    ..STILL
+            Command::Position(
+                LensPosition {
+                    axis,
+                    lens,
+                    position,
                 },
+            ) => Order {
+                targets: Targets::Two([to(axis.position(), position), to(axis.drive(), 0)]),
+                paces: Paces { lens, ..STILL },
             },
-            Command::Drive(PanTilt { pan, tilt, paces }) => Order {
+            Command::PanTiltDrive(PanTiltMove { pan, tilt, paces }) => Order {
                 targets: Targets::Two([to(Setting::PanDrive, pan), to(Setting::TiltDrive, tilt)]),
                 paces,
             },
-            Command::Turn(PanTilt { pan, tilt, paces }) => Order {
+            Command::PanTiltPosition(PanTiltMove { pan, tilt, paces }) => Order {
                 targets: Targets::Four([
                     to(Setting::Pan, pan),
                     to(Setting::Tilt, tilt),

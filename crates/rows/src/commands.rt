@@ -9,7 +9,7 @@ use crate::command::Command;
 use crate::faults::RowFault;
 use crate::find::find_row;
 use crate::operands::Operands::{
-    Digit, Drive, Home, Level, Number, PanTilt, PanTiltDrive, Position, PositionAtSpeed,
+    Digit, Home, LensDrive, Level, Number, PanTiltDrive, PanTiltPosition, Position, PositionAtSpeed,
 };
 use crate::operands::{Operands, Sense};
 use crate::table::{TableRow, row};
@@ -24,9 +24,9 @@ pub const COMMANDS: [CommandRow; 12] = [
     // power
     row!(0x04, One(0x00, Power), Digit),
     // zoom drive
-    row!(0x04, One(0x07, ZoomDrive), Drive(Sense::Up)),
+    row!(0x04, One(0x07, ZoomDrive), LensDrive(Sense::Up)),
     // focus drive
-    row!(0x04, One(0x08, FocusDrive), Drive(Sense::Down)),
+    row!(0x04, One(0x08, FocusDrive), LensDrive(Sense::Down)),
     // zoom to a position
     row!(0x04, One(0x47, Zoom), Position(Axis::Zoom, 4)),
     // zoom to a position with a speed
@@ -42,7 +42,7 @@ pub const COMMANDS: [CommandRow; 12] = [
     // pan-tilt drive
     row!(0x06, One(0x01, PanDrive), PanTiltDrive),
     // pan-tilt to a position
-    row!(0x06, One(0x02, Pan), PanTilt),
+    row!(0x06, One(0x02, Pan), PanTiltPosition),
     // home
     row!(0x06, One(0x04, Pan), Home),
 ];
@@ -52,14 +52,14 @@ pub const COMMANDS: [CommandRow; 12] = [
 #[tactic(auto, unfolding(crate::specs::Commands::read_command))]
 #[inline(always)]
 pub fn find_command(body: &[u8]) -> Result<(usize, Command), RowFault>
-    ensures { with_order result ≡ command_read body.now }
+    ensures { result ≡ command_read body.now }
 {
     find_row(&COMMANDS, body)
 }
 
 /// The same, with the order that it is.
 pub fn read_command(body: &[u8]) -> Result<(usize, Order), RowFault>
-    ensures is { result ≡ command_read body.now }
+    ensures is { result ≡ with_order (command_read body.now) }
     ensures one_row { ByOneRow body.now result }
 {
     let (row, command) = find_command(body)?;

@@ -6,64 +6,50 @@ ghost use Rattle.rows.specs.Inquiries.{inquiry_asked, read_inquiry as inquiry_re
 use crate::codes::Codes::{Levels, Modes, One};
 use crate::faults::RowFault;
 use crate::find::find_row;
+use crate::inquiry::Inquiry;
 use crate::operands::OperandForm;
 use crate::table::{TableRow, row};
 use head::Setting;
 use head::Setting::{Focus, Identity, Pan, Power, Zoom};
 
-/// How an inquiry is answered.
+/// What stands behind an inquiry's category and code: nothing.
 #[derive(Clone, Copy, PartialEq, Eq, Debug)]
-pub enum Form {
-    /// `0p`
-    Digit,
-    /// `00 00 0p 0q`
-    Level,
-    /// Four digits.
-    Number,
-    /// Eight digits, or an error where there is no pan and tilt.
-    PanTilt,
-}
+pub struct NoOperands;
 
-/// What is asked: a setting, and the form of the answer.
-#[derive(Clone, Copy, Debug, PartialEq, Eq)]
-pub struct Inquiry {
-    pub setting: Setting,
-    pub form: Form,
-}
-
-// An inquiry has no operands.
-impl OperandForm for Form {
+// What a setting is answered in is its own, whatever row asks for it.
+impl OperandForm for NoOperands {
     type Meaning = Inquiry;
 
     ghost makes = { inquiry_asked };
 
     fn read(&self, setting: Setting, operands: &[u8]) -> Option<Inquiry> {
-        operands.is_empty().then_some(Inquiry {
-            setting,
-            form: *self,
-        })
+        if operands.is_empty() {
+            Inquiry::of(setting)
+        } else {
+            None
+        }
     }
 }
 
 /// A row of the inquiry table.
-pub type InquiryRow = TableRow<Form>;
+pub type InquiryRow = TableRow<NoOperands>;
 
 /// The inquiry rows, in the order in which they are tried.
 pub const INQUIRIES: [InquiryRow; 7] = [
     // power
-    row!(0x04, One(0x00, Power), Form::Digit),
+    row!(0x04, One(0x00, Power), NoOperands),
     // zoom
-    row!(0x04, One(0x47, Zoom), Form::Number),
+    row!(0x04, One(0x47, Zoom), NoOperands),
     // focus
-    row!(0x04, One(0x48, Focus), Form::Number),
+    row!(0x04, One(0x48, Focus), NoOperands),
     // identity
-    row!(0x04, One(0x22, Identity), Form::Number),
+    row!(0x04, One(0x22, Identity), NoOperands),
     // the settings of one digit
-    row!(0x04, Modes, Form::Digit),
+    row!(0x04, Modes, NoOperands),
     // the settings of two digits
-    row!(0x04, Levels, Form::Level),
+    row!(0x04, Levels, NoOperands),
     // pan and tilt
-    row!(0x06, One(0x12, Pan), Form::PanTilt),
+    row!(0x06, One(0x12, Pan), NoOperands),
 ];
 
 /// Reads an inquiry behind its first byte, `09`: the place of the row that admits it, from 0, and

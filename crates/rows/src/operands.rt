@@ -31,7 +31,7 @@ pub enum Operands {
     /// `0p`: the setting to p.
     Digit,
     /// `00`, `02`, `03`, `2p`, `3p`: the drive to 0, 4, -4, p + 1 or -(p + 1), or the other way.
-    Drive(Sense),
+    LensDrive(Sense),
     /// Four digits: the position there and its drive to 0, at this lens pace.
     Position(Axis, u8),
     /// `0n` and four digits: the same, at lens pace n + 1.
@@ -43,7 +43,7 @@ pub enum Operands {
     /// `VV WW dd ee`: the drives of pan and tilt.
     PanTiltDrive,
     /// `VV WW`, four digits, four digits: pan and tilt there and their drives to 0.
-    PanTilt,
+    PanTiltPosition,
     /// Nothing: pan and tilt and their drives to 0.
     Home,
 }

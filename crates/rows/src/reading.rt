@@ -3,7 +3,7 @@
 ghost use Rattle.std.specs.Prelude.{◌≡◌, pos};
 ghost use Rattle.rows.specs.Reading.{ranged as ranged_by, alone as alone_by, digit as digit_by, pushed as pushed_by, turned as turned_by, lens_driven as driven_by, placed as placed_by, placed_at as placed_at_by, level as level_by, four_digits as number_by, turning as turning_by, steered as steered_by, pan_tilt_driven as pan_tilt_driven_by, pan_tilt as pan_tilt_by, pan_tilt_placed as pan_tilt_placed_by, home as home_by, reads};
 
-use crate::command::{Command, PanTilt, Place, STILL};
+use crate::command::{Command, LensPosition, PanTiltMove, STILL};
 use crate::digits::{signed, word};
 use crate::operands::{OperandForm, Operands, Sense};
 use head::{Axis, Paces, Setting, Target};
@@ -68,7 +68,7 @@ fn placed(axis: Axis, lens: u8, digits: [u8; 4]) -> Option<Command>
     ensures { result ≡ placed_by axis lens digits }
 {
     let position = i32::from(word(digits)?);
-    ranged(Command::Place(Place {
+    ranged(Command::Position(LensPosition {
         axis,
         lens,
         position,
@@ -132,14 +132,14 @@ fn pan_tilt_driven(paces: Paces, d: u8, e: u8) -> Option<Command>
 {
     let pan = steered(Sense::Up, d, paces.pan)?;
     let tilt = steered(Sense::Down, e, paces.tilt)?;
-    ranged(Command::Drive(PanTilt { pan, tilt, paces }))
+    ranged(Command::PanTiltDrive(PanTiltMove { pan, tilt, paces }))
 }
 
 #[inline(always)]
 fn pan_tilt(paces: Paces, pan: i32, tilt: i32) -> Option<Command>
     ensures { result ≡ pan_tilt_by paces pan tilt }
 {
-    ranged(Command::Turn(PanTilt { pan, tilt, paces }))
+    ranged(Command::PanTiltPosition(PanTiltMove { pan, tilt, paces }))
 }
 
 #[inline(always)]
@@ -169,13 +169,13 @@ impl OperandForm for Operands {
     fn read(&self, setting: Setting, operands: &[u8]) -> Option<Command> {
         match (*self, operands) {
             (Operands::Digit, &[p]) => digit(setting, p),
-            (Operands::Drive(sense), &[b]) => driven(sense, setting, b),
+            (Operands::LensDrive(sense), &[b]) => driven(sense, setting, b),
             (Operands::Position(axis, lens), &[p, q, r, s]) => placed(axis, lens, [p, q, r, s]),
             (Operands::PositionAtSpeed(axis), &[n, p, q, r, s]) => placed_at(axis, n, [p, q, r, s]),
             (Operands::Level, &[y, z, p, q]) => level(setting, [y, z, p, q]),
             (Operands::Number, &[p, q, r, s]) => number(setting, [p, q, r, s]),
             (Operands::PanTiltDrive, &[v, w, d, e]) => pan_tilt_driven(turning(v, w)?, d, e),
-            (Operands::PanTilt, &[v, w, a, b, c, d, e, f, g, h]) => {
+            (Operands::PanTiltPosition, &[v, w, a, b, c, d, e, f, g, h]) => {
                 pan_tilt_placed(turning(v, w)?, [a, b, c, d], [e, f, g, h])
             }
             (Operands::Home, []) => home(),

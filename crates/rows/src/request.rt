@@ -7,23 +7,24 @@ ghost use Rattle.rows.specs.Inquiries.{read_inquiry as inquiry_read};
 ghost use Rattle.rows.specs.Requests.{as_command, as_inquiry, read_body, packet_code};
 ghost use Rattle.rows.specs.Search.{row_code};
 
-use crate::commands::read_command;
+use crate::command::Command;
+use crate::commands::find_command;
 use crate::faults::{PacketFault, RowFault};
-use crate::inquiries::{Inquiry, read_inquiry};
+use crate::inquiries::read_inquiry;
+use crate::inquiry::Inquiry;
 use fault::{FaultCode, Layer};
-use head::Order;
 
-/// The first byte of a command's body.
-pub const COMMAND: u8 = 0x01;
+// The first byte of a command's body.
+const COMMAND: u8 = 0x01;
 
-/// The first byte of an inquiry's body.
-pub const INQUIRY: u8 = 0x09;
+// The first byte of an inquiry's body.
+const INQUIRY: u8 = 0x09;
 
 /// What a packet for this end asks for.
 #[derive(Clone, Copy, Debug, PartialEq, Eq)]
 pub enum Request {
-    /// A command: the place of its row, from 0, and the order that it is.
-    Command(usize, Order),
+    /// A command: the place of its row, from 0, and what it says.
+    Command(usize, Command),
     /// An inquiry.
     Ask(Inquiry),
 }
@@ -36,13 +37,15 @@ impl From<RowFault> for PacketFault {
     }
 }
 
+#[inline(always)]
 fn command(rest: &[u8]) -> Result<Request, PacketFault>
     ensures { result ≡ as_command (command_read rest.now) }
 {
-    let (row, order) = read_command(rest)?;
-    Ok(Request::Command(row, order))
+    let (row, command) = find_command(rest)?;
+    Ok(Request::Command(row, command))
 }
 
+#[inline(always)]
 fn asked(rest: &[u8]) -> Result<Request, PacketFault>
     ensures { result ≡ as_inquiry (inquiry_read rest.now) }
 {
@@ -51,6 +54,7 @@ fn asked(rest: &[u8]) -> Result<Request, PacketFault>
 }
 
 /// Reads a body: `01` begins a command, `09` an inquiry.
+#[inline(always)]
 pub fn read(body: &[u8]) -> Result<Request, PacketFault>
     ensures { result ≡ read_body body.now }
 {
