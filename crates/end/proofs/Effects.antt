@@ -8,7 +8,7 @@ use Rattle.end.specs.Book.{Seen, closed, working, other as nothing_said}
 use Rattle.end.specs.Deeds.{DidHead, sockets_after, clears, starts, displaces, Given}
 use Rattle.end.specs.Law.{order_asked, read_as}
 use Rattle.end.specs.Outcomes.{Outcome, own_header, own, sends, does, taken, requested, cancelled}
-use Rattle.end.specs.Sockets.{full, free, powering_in, socket_at}
+use Rattle.end.specs.Sockets.{finds_room, free, powering_in, socket_at}
 use Rattle.end.specs.States.{State}
 use Rattle.end.proofs.Asked.{told_plain}
 use Rattle.end.proofs.Heard.{Whole, whole}
@@ -106,7 +106,7 @@ module _ (f : Setting → ℤ) (pt : Bool) (a : ℕ) (p sent : List ℕ) (s' : S
 
   -- an admitted command, by whether it is forbidden
   abbrev commanded_if : Bool → Sockets → Order → Outcome
-  commanded_if t k o = cond (full k) (sends a (own a (Error 0 BufferFull))) (cond t (sends a (own a (Error 0 NotExecutable))) (taken a k (free k) o))
+  commanded_if t k o = cond (not (finds_room k)) (sends a (own a (Error 0 BufferFull))) (cond t (sends a (own a (Error 0 NotExecutable))) (taken a k (free k) o))
 
   module _ (has : eqb a 0 ≡ false) where
     -- a reply that says nothing of a socket

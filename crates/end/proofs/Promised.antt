@@ -3,14 +3,16 @@ use Rattle.std.proofs.Common.{◌≡◌, ℕ, ◌+◌, ◌*◌, ◌/◌, ◌%◌
 use Rattle.std.proofs.lemmas.Bool.{true≢false, eqb-false, eq-eqb, ne_eqb, le-leb, lt-ltb}
 use Rattle.end.specs.declared.call.Call.{Call}
 use Rattle.end.specs.declared.call.Call.TheVariants.{Byte, Tick, Open}
-use Rattle.end.specs.Book.{Book, Entry, Standing, between, inside, Seen, closed, working, Said, acknowledges, ends, other, said_of, seen_after_said, cut, seen_after_replies, with_packet, after_tick, before_replies, made_whole, standing_after, clearing, accepted, after_call, book_of}
+use Rattle.end.specs.Book.{Book, Entry, Standing, between, inside, Seen, closed, working, Said, acknowledges, ends, other, said_of, seen_after_said, cut, seen_after_replies, with_packet, after_tick, before_replies, made_whole, standing_after, clearing, accepted, after_call}
 use Rattle.end.specs.declared.socket.Sockets.{Sockets}
 use Rattle.end.specs.Deeds.{cancels}
-use Rattle.end.specs.Faults.{Answer, counts}
-use Rattle.end.specs.Law.{Run, Law, InOrder, Due, InTime, open_by, entry}
-use Rattle.end.specs.Law as law
+use Rattle.end.specs.Faults.{counts}
+use Rattle.end.specs.Law.{Law, InOrder, InOrderAt, Due, InTime, open_by}
 use Rattle.end.specs.Outcomes.{own, sends, does, framed, met}
 use Rattle.end.specs.Promises.{Number, one, two, seen_at, Ending, ClearedBy, Clearing, Over, OverIn, counted, ticks_in, Comes, come, Silent, ACancelIsNeverRefused, AWholeCancelIsNeverRefused, EveryAcknowledgedCommandIsEnded, WhatIsSentIsWholePackets}
+use Rattle.end.specs.Records.{Record, book_of}
+use Rattle.end.specs.Runs.{Run}
+use Rattle.end.specs.Runs as runs
 use Rattle.end.specs.Sockets.{is_open, socket_at, with_socket}
 use Rattle.end.specs.States.{State}
 use Rattle.end.specs.Steps.{Came}
@@ -78,40 +80,42 @@ module _ (k : Book) (y : ℕ) (number : Number y) (p : List ℕ) (n : ℕ) (at :
   read_at one e t = rw t refl
   read_at two e t = rw t refl
 
-  order_at : {y : ℕ} → Number y → (s : State) (e : Entry) (a : Answer) (s' : State) → Law k s e a s' → accepted e.call e.room ≡ true →
-      InOrder (before_replies k e.call).address y (before_replies k e.call).last (cut e.sent) (seen_at (before_replies k e.call) y)
-  order_at one s e a s' l t = l.order_one t
-  order_at two s e a s' l t = l.order_two t
+  order_at : {y : ℕ} → Number y → (s : State) (r : Record) (s' : State) → Law k s r s' → accepted r.fed.call r.fed.room ≡ true →
+      InOrderAt k r.fed y (seen_at (before_replies k r.fed.call) y)
+  order_at one s r s' l t = l.order_one t
+  order_at two s r s' l t = l.order_two t
 
   uncounted : (c : Call) (room : ℕ) → accepted c room ≡ false → counted c room ≡ 0
   uncounted (Byte b) room t = refl
   uncounted Tick room t = rw t refl
   uncounted Open room t = refl
 
-  over_call : (s : State) (e : Entry) (a : Answer) (s' : State) (t : Bool) → accepted e.call e.room ≡ t → Law k s e a s' →
-      Over k y e ⊎ (seen_at (after_call k e) y ≡ working p (n + counted e.call e.room))
-  over_call s e a s' true t l = elim (noted e.call e.room t) [
-    | inl c ↦ inl (record { taken = t; how = inr c })
-    | inr g ↦ elim (still_working (before_replies k e.call).address y (before_replies k e.call).last p (n + counted e.call e.room) (cut e.sent) (seen_at (before_replies k e.call) y) g (order_at number s e a s' l t)) [
-      | inl f ↦ inl (record { taken = t; how = inl f })
-      | inr r ↦ inr (read_at number e t ∙ r)
-    ]
-  ]
-  over_call s e a s' false t l =
-      let same : after_call k e ≡ k = rw t refl in
-      let none : n + counted e.call e.room ≡ n = ap (λ (z : ℕ). n + z) (uncounted e.call e.room t) ∙ add-zero n in
+  over_call : (s : State) (r : Record) (s' : State) (t : Bool) → accepted r.fed.call r.fed.room ≡ t → Law k s r s' →
+      Over k y r.fed ⊎ (seen_at (after_call k r.fed) y ≡ working p (n + counted r.fed.call r.fed.room))
+  over_call s r s' true t l =
+      let b = before_replies k r.fed.call in
+      elim (noted r.fed.call r.fed.room t) [
+        | inl c ↦ inl (record { taken = t; how = inr c })
+        | inr g ↦ elim (still_working b.address y b.last p (n + counted r.fed.call r.fed.room) (cut r.fed.sent) (seen_at b y) g (order_at number s r s' l t)) [
+          | inl f ↦ inl (record { taken = t; how = inl f })
+          | inr w ↦ inr (read_at number r.fed t ∙ w)
+        ]
+      ]
+  over_call s r s' false t l =
+      let same : after_call k r.fed ≡ k = rw t refl in
+      let none : n + counted r.fed.call r.fed.room ≡ n = ap (λ (z : ℕ). n + z) (uncounted r.fed.call r.fed.room t) ∙ add-zero n in
       inr (ap (λ (b : Book). seen_at b y) same ∙ at ∙ ap (λ (z : ℕ). working p z) (sym none))
 
 -- Over a run.
 
-module _ (m : Meaning) (h : List Entry) (y : ℕ) (number : Number y) (p : List ℕ) (n : ℕ) (at : seen_at (book_of h) y ≡ working p n) where
-  open_until : (later : List Entry) {s : State} → Run m (later ++ h) s → OverIn y h later ⊎ (seen_at (book_of (later ++ h)) y ≡ working p (n + ticks_in later))
+module _ (m : Meaning) (h : List Record) (y : ℕ) (number : Number y) (p : List ℕ) (n : ℕ) (at : seen_at (book_of h) y ≡ working p n) where
+  open_until : (later : List Record) {s : State} → Run m (later ++ h) s → OverIn y h later ⊎ (seen_at (book_of (later ++ h)) y ≡ working p (n + ticks_in later))
   open_until [] r = inr (at ∙ ap (λ (z : ℕ). working p z) (sym (add-zero n)))
-  open_until (e ∷ later) (law.Run.then {s = s} {s' = s'} _ a r d _) = elim (open_until later r) [
+  open_until (r ∷ later) (runs.Run.then {s = s} {s' = s'} _ x d _) = elim (open_until later x) [
     | inl f ↦ inl (inr f)
-    | inr g ↦ elim (over_call (book_of (later ++ h)) y number p (n + ticks_in later) g s e a s' (accepted e.call e.room) refl (call_law e a s' r d)) [
+    | inr g ↦ elim (over_call (book_of (later ++ h)) y number p (n + ticks_in later) g s r s' (accepted r.fed.call r.fed.room) refl (call_law r s' x d)) [
       | inl f ↦ inl (inl f)
-      | inr w ↦ inr (w ∙ ap (λ (z : ℕ). working p z) (add_assoc n (ticks_in later) (counted e.call e.room)))
+      | inr w ↦ inr (w ∙ ap (λ (z : ℕ). working p z) (add_assoc n (ticks_in later) (counted r.fed.call r.fed.room)))
     ]
   ]
 
@@ -119,7 +123,7 @@ module _ (m : Meaning) (h : List Entry) (y : ℕ) (number : Number y) (p : List 
   in_time one k s i = tied_in_time i.one
   in_time two k s i = tied_in_time i.two
 
-  ended : (later : List Entry) {s : State} → Run m (later ++ h) s → 1000 ≤ ticks_in later → OverIn y h later
+  ended : (later : List Record) {s : State} → Run m (later ++ h) s → 1000 ≤ ticks_in later → OverIn y h later
   ended later {s} r many = elim (open_until later r) [
     | inl f ↦ f
     | inr g ↦
@@ -179,40 +183,40 @@ a_cancel_is_never_refused m h s r y number p n at st x =
     let z = k.address in
     let bs : List ℕ = (0x80 + z) ∷ (0x20 + y) ∷ [] in
     let has = has_address number k s p n i at in
-    let T : Held → ℕ → Type 0 = λ hd n. Came s (held_after hd 0xff) (framed n s.head s.sockets (event hd 0xff)) x.answer x.sent x.after in
+    let T : Held → ℕ → Type 0 = λ hd n. Came s (held_after hd 0xff) (framed n s.head s.sockets (event hd 0xff)) (come x) x.after in
     let c₁ : T s.held s.address = x.step.enough x.enough in
     let c₂ : T (begun bs) s.address = subst (λ (hd : Held). T hd s.address) (stands_inside bs i.stands st) c₁ in
     let c₃ : T (begun bs) z = subst (λ (n : ℕ). T (begun bs) n) i.address c₂ in
-    let U : Rule → Type 0 = λ rule. Came s none (met z s.head s.sockets (cancel_of z y) rule) x.answer x.sent x.after in
+    let U : Rule → Type 0 = λ rule. Came s none (met z s.head s.sockets (cancel_of z y) rule) (come x) x.after in
     let c₄ : U (Cancelled y) = subst U (cancel_rule z i.low has number) c₃ in
-    let V : Bool → Type 0 = λ t. Came s none (cond t (does z (cancels y) (own z (Error y CancelledCommand))) (sends z (own z (Error y NoSocket)))) x.answer x.sent x.after in
+    let V : Bool → Type 0 = λ t. Came s none (cond t (does z (cancels y) (own z (Error y CancelledCommand))) (sends z (own z (Error y NoSocket)))) (come x) x.after in
     let c : V true = subst V (open_at number k s p n i at) c₄ in
-    let after = (goes k s (Byte 0xff) x.room x.answer x.sent x.after (in_range_in r) i x.step).inv in
+    let after = (goes k s (come x) x.after (in_range_in r) i x.step).inv in
     record {
       answer = c.answer ∙ ap (λ (q : List ℕ). counts (length q)) (reply_length number z);
       ending = c.packets ∙ reply_length number z;
-      shut = closed_at number (after_call k (come x)) x.after s.sockets after c.sockets;
+      shut = closed_at number (after_call k (come x).fed) x.after s.sockets after c.sockets;
     }
 
 -- A cancel from its first byte on.
 
 -- after a byte that makes nothing whole
-record Quiet (m : Meaning) (h : List Entry) {s : State} {b : ℕ} (x : Comes s b) (st : Standing) (y : ℕ) : Type 0 where
+record Quiet (m : Meaning) (h : List Record) {s : State} {b : ℕ} (x : Comes s b) (st : Standing) (y : ℕ) : Type 0 where
   run : Run m (come x ∷ h) x.after
   silent : Silent x
   address : (book_of (come x ∷ h)).address ≡ (book_of h).address
   standing : (book_of (come x ∷ h)).standing ≡ st
   seen : seen_at (book_of (come x ∷ h)) y ≡ seen_at (book_of h) y
 
-quiet : (m : Meaning) (h : List Entry) (s : State) (b : ℕ) (x : Comes s b) (st : Standing) (y : ℕ) → Number y → Run m h s →
+quiet : (m : Meaning) (h : List Record) (s : State) (b : ℕ) (x : Comes s b) (st : Standing) (y : ℕ) → Number y → Run m h s →
     event s.held b ≡ Ok None → made_whole (book_of h).standing b ≡ None → standing_after (book_of h).standing b ≡ st → Quiet m h x st y
 quiet m h s b x st y number r tells unmade stands =
-    let T : Event → Type 0 = λ ev. Came s (held_after s.held b) (framed s.address s.head s.sockets ev) x.answer x.sent x.after in
+    let T : Event → Type 0 = λ ev. Came s (held_after s.held b) (framed s.address s.head s.sockets ev) (come x) x.after in
     let c : T (Ok None) = subst T tells (x.step.enough x.enough) in
     let v = in_range_in r in
     let big = le-leb 16 x.room x.enough in
     record {
-      run = law.Run.then (come x) x.answer r x.step (record { each = λ t. rw (c.head.kept.setting t) (v.each t) });
+      run = runs.Run.then (come x) r x.step (record { each = λ t. rw (c.head.kept.setting t) (v.each t) });
       silent = record { answer = c.answer; nothing = c.packets };
       address = rw (big, unmade) refl;
       standing = rw (big, unmade) stands;
@@ -257,4 +261,4 @@ a_whole_cancel_is_never_refused m h s r y number p n at st x₁ x₂ x₃ =
 -- What is sent.
 
 pub what_is_sent_is_whole_packets : WhatIsSentIsWholePackets
-what_is_sent_is_whole_packets m h s r c room a sent s' d = (call_law (entry c room sent) a s' r d).whole
+what_is_sent_is_whole_packets m h s x r s' d = (call_law r s' x d).whole

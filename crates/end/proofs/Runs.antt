@@ -5,11 +5,15 @@ use Rattle.end.specs.declared.call.Call.{Call}
 use Rattle.end.specs.declared.call.Call.TheVariants.{Byte, Tick, Open}
 use Rattle.end.specs.declared.faults.Cause.TheVariants.{ShortBuffer}
 use Rattle.end.specs.declared.socket.Sockets.{Sockets}
-use Rattle.end.specs.Book.{Book, Entry, Standing, Seen, closed, between, cut, seen_after_replies, with_packet, after_replies, after_tick, one_tick_older, before_replies, accepted, after_call, book_of, fresh, clearing}
+use Rattle.end.specs.Book.{Book, Standing, Seen, closed, between, cut, seen_after_replies, with_packet, after_replies, after_tick, one_tick_older, before_replies, accepted, after_call, fresh, clearing}
 use Rattle.end.specs.Deeds.{Unchanged}
 use Rattle.end.specs.Faults.{Answer, opens}
-use Rattle.end.specs.Law.{Run, Lawful, Law, Agreement, WholePackets, InOrder, MayChange, open_by, entry, Keeps, Played, CallMade, room_for, SocketsAgreeInEveryRun}
+use Rattle.end.specs.Law.{Lawful, Law, Agreement, WholePackets, InOrder, InOrderAt, MayChange, open_by, Keeps, LawfulBehind, CallsKeepTheLaw, SocketsAgreeInEveryRun}
 use Rattle.end.specs.Law as law
+use Rattle.end.specs.Played.{Played, CallMade}
+use Rattle.end.specs.Records.{Record, record_of, room_for, book_of}
+use Rattle.end.specs.Runs.{Run, Calls, RunsGoOn}
+use Rattle.end.specs.Runs as runs
 use Rattle.end.specs.Outcomes.{Outcome, own_header, sends, fails, framed, met, ended, requested as asked_for}
 use Rattle.end.specs.States.{State, InRange}
 use Rattle.end.specs.Steps.{Came, Made, Step}
@@ -19,6 +23,7 @@ use Rattle.end.proofs.Ruled.{Ruled, taken_off, address, cleared_for_all, sent_on
 use Rattle.end.proofs.Sent.{whole_packets}
 use Rattle.end.proofs.Ticking.{tied_after_tick, changed}
 use Rattle.end.proofs.Tied.{Tied, rests, tied_open, tied_holds, tied_in_time, After}
+use Rattle.head.specs.declared.outcome.Endings.{Endings}
 use Rattle.head.specs.declared.setting.Setting.{Setting}
 use Rattle.head.specs.Meaning.{Meaning}
 use Rattle.head.specs.Settings.{Small}
@@ -159,7 +164,10 @@ shut_closed : (b : Bool) (l : Seen) → l ≡ closed → shut_if b l ≡ closed
 shut_closed true l e = refl
 shut_closed false l e = e
 
-module _ (k : Book) (s : State) (a : Answer) (sent : List ℕ) (s' : State) (v : InRange s) (i : Inv k s) where
+module _ (k : Book) (s : State) (r : Record) (s' : State) (v : InRange s) (i : Inv k s) where
+  abbrev sent : List ℕ
+  sent = r.fed.sent
+
   abbrev as_at : ℕ → Book
   as_at n = record { address = n; standing = k.standing; last = k.last; one = k.one; two = k.two }
 
@@ -170,17 +178,17 @@ module _ (k : Book) (s : State) (a : Answer) (sent : List ℕ) (s' : State) (v :
       noted (with_packet k st None) s.head.setting sent s' (e ∙ i.address) i.low (rw g t) i.asleep
       (effects.silent s.head.setting s.head.pantilt k.address k.last sent s' i.low i.one i.two d)
 
-  whole_heard : {p : List ℕ} → Whole p → Came s none (framed s.address s.head s.sockets (Ok (Some p))) a sent s' →
+  whole_heard : {p : List ℕ} → Whole p → Came s none (framed s.address s.head s.sockets (Ok (Some p))) r s' →
       Noted (with_packet (as_at s.address) between (Some p)) s.head.setting sent s'
   whole_heard {p} w c =
       let low : s.address ≤ 7 = subst (λ (n : ℕ). n ≤ 7) (sym i.address) i.low in
-      let r = ruled s.address low w in
-      let m = met_packet s p sent s' (λ t. small_of t (s.head.setting t) (v.each t)) low k.one k.two i.one i.two w r (record { packets = c.packets; head = c.head; sockets = c.sockets }) in
+      let u = ruled s.address low w in
+      let m = met_packet s p sent s' (λ t. small_of t (s.head.setting t) (v.each t)) low k.one k.two i.one i.two w u (record { packets = c.packets; head = c.head; sockets = c.sockets }) in
       noted (with_packet (as_at s.address) between (Some p)) s.head.setting sent s' (c.address ∙ m.then) m.low (rw c.held nowhere)
-      (λ z. let q = i.asleep (sym i.address ∙ ruled_asleep r z) in (shut_closed (clearing s.address p) k.one q.0, shut_closed (clearing s.address p) k.two q.1))
+      (λ z. let q = i.asleep (sym i.address ∙ ruled_asleep u z) in (shut_closed (clearing s.address p) k.one q.0, shut_closed (clearing s.address p) k.two q.1))
       m.after
 
-  byte_heard : {st : Standing} {h : Held} {w : Option (List ℕ)} {ev : Event} → Heard st h w ev → Came s h (framed s.address s.head s.sockets ev) a sent s' →
+  byte_heard : {st : Standing} {h : Held} {w : Option (List ℕ)} {ev : Event} → Heard st h w ev → Came s h (framed s.address s.head s.sockets ev) r s' →
       Noted (with_packet k st w) s.head.setting sent s'
   byte_heard (nothing t) c = unheard (record { packets = c.packets; head = c.head; sockets = c.sockets }) c.address c.held t
   byte_heard (faulty t) c = unheard (record { packets = c.packets; head = c.head; sockets = c.sockets }) c.address c.held t
@@ -188,13 +196,13 @@ module _ (k : Book) (s : State) (a : Answer) (sent : List ℕ) (s' : State) (v :
 
 -- One call.
 
-pub record Goes (k : Book) (s : State) (e : Entry) (a : Answer) (s' : State) : Type 0 where
-  pub inv : Inv (after_call k e) s'
-  pub order_one : accepted e.call e.room ≡ true → InOrder (before_replies k e.call).address 1 (before_replies k e.call).last (cut e.sent) (before_replies k e.call).one
-  pub order_two : accepted e.call e.room ≡ true → InOrder (before_replies k e.call).address 2 (before_replies k e.call).last (cut e.sent) (before_replies k e.call).two
-  pub silent : accepted e.call e.room ≡ false → e.sent ≡ []
-  pub settings : (t : Setting) → (s'.head.setting t ≡ s.head.setting t) ⊎ MayChange k s.head e t
-  pub answer : e.call ≡ Open → a ≡ opens (open_by k.one) (open_by k.two)
+pub record Goes (k : Book) (s : State) (r : Record) (s' : State) : Type 0 where
+  pub inv : Inv (after_call k r.fed) s'
+  pub order_one : accepted r.fed.call r.fed.room ≡ true → InOrderAt k r.fed 1 (before_replies k r.fed.call).one
+  pub order_two : accepted r.fed.call r.fed.room ≡ true → InOrderAt k r.fed 2 (before_replies k r.fed.call).two
+  pub silent : accepted r.fed.call r.fed.room ≡ false → r.fed.sent ≡ []
+  pub settings : (t : Setting) → (s'.head.setting t ≡ s.head.setting t) ⊎ MayChange k s.head r.fed t
+  pub answer : r.fed.call ≡ Open → r.answer ≡ opens (open_by k.one) (open_by k.two)
 
 -- end and head as before, nothing sent
 still : (k : Book) (s s' : State) → Inv k s → Unchanged s.head s'.head → s'.sockets ≡ s.sockets → s'.address ≡ s.address → s'.held ≡ s.held → Inv k s'
@@ -208,9 +216,9 @@ still k s s' i h c e g = record {
 }
 
 -- a call with a short buffer
-refused : (k : Book) (s : State) (e : Entry) (a : Answer) (s' : State) → (e.call ≡ Open → ⊥) → accepted e.call e.room ≡ false → Inv k s →
-    Came s s.held (fails s.address ShortBuffer []) a e.sent s' → Goes k s e a s'
-refused k s e a s' never w i c = record {
+refused : (k : Book) (s : State) (r : Record) (s' : State) → (r.fed.call ≡ Open → ⊥) → accepted r.fed.call r.fed.room ≡ false → Inv k s →
+    Came s s.held (fails s.address ShortBuffer []) r s' → Goes k s r s'
+refused k s r s' never w i c = record {
   inv = rw w (still k s s' i c.head c.sockets c.address c.held);
   order_one = λ t. cc;
   order_two = λ t. cc;
@@ -219,53 +227,58 @@ refused k s e a s' never w i c = record {
   answer = λ o. absurd (never o);
 }
 
-byte_goes : (k : Book) (s : State) (b n : ℕ) (a : Answer) (sent : List ℕ) (s' : State) (w : Bool) → leb 16 n ≡ w → InRange s → Inv k s → Step s (Byte b) n a sent s' → Goes k s (entry (Byte b) n sent) a s'
-byte_goes k s b n a sent s' true w v i d =
-    let r = byte_heard k s a sent s' v i (heard b i.stands) (d.enough (leb-true 16 n w)) in
-    record {
-      inv = rw w r.inv;
-      order_one = λ t. r.order_one;
-      order_two = λ t. r.order_two;
-      silent = λ t. cc;
-      settings = λ t. inl (r.settings t);
-      answer = λ o. cc;
-    }
-byte_goes k s b n a sent s' false w v i d = refused k s (entry (Byte b) n sent) a s' (λ o. cc) w i (d.short (leb-false 16 n w))
+module _ (k : Book) (s : State) (n : ℕ) (a : Answer) (sent : List ℕ) (e : Endings) (s' : State) where
+  abbrev of : Call → Record
+  of c = record_of c n a sent e
 
-tick_goes : (k : Book) (s : State) (n : ℕ) (a : Answer) (sent : List ℕ) (s' : State) (w : Bool) → leb 16 n ≡ w → Inv k s → Step s Tick n a sent s' → Goes k s (entry Tick n sent) a s'
-tick_goes k s n a sent s' true w i d =
-    let x = d.enough (leb-true 16 n w) in
-    let e = x.0 in
-    let c = x.1 in
-    let h = c.head in
-    let says = subst (λ (z : ℕ). sent ≡ ended (own_header z) 1 e.one ++ ended (own_header z) 2 e.two) i.address c.packets in
-    let r = tied_after_tick k.address k.last sent s' e i.low (awake k.address k.one k.two (eqb k.address 0) refl i.asleep) i.one i.two h.one h.two c.sockets says in
-    let q = noted (after_tick k) s'.head.setting sent s' (c.address ∙ i.address) i.low (rw c.held i.stands)
-    (λ z. let y = i.asleep z in (ap one_tick_older y.0, ap one_tick_older y.1)) r in
-    record {
-      inv = rw w q.inv;
-      order_one = λ t. q.order_one;
-      order_two = λ t. q.order_two;
-      silent = λ t. cc;
-      settings = λ t. elim (changed s.head s'.head e t h i.one i.two) [ inl y ↦ inl y | inr y ↦ inr (record { tick = refl; room = leb-true 16 n w; why = y }) ];
-      answer = λ o. cc;
-    }
-tick_goes k s n a sent s' false w i d = refused k s (entry Tick n sent) a s' (λ o. cc) w i (d.short (leb-false 16 n w))
+  byte_goes : (b : ℕ) (w : Bool) → leb 16 n ≡ w → InRange s → Inv k s → Step s (of (Byte b)) s' → Goes k s (of (Byte b)) s'
+  byte_goes b true w v i d =
+      let r = byte_heard k s (of (Byte b)) s' v i (heard b i.stands) (d.enough (leb-true 16 n w)) in
+      record {
+        inv = rw w r.inv;
+        order_one = λ t. r.order_one;
+        order_two = λ t. r.order_two;
+        silent = λ t. cc;
+        settings = λ t. inl (r.settings t);
+        answer = λ o. cc;
+      }
+  byte_goes b false w v i d = refused k s (of (Byte b)) s' (λ o. cc) w i (d.short (leb-false 16 n w))
 
-open_goes : (k : Book) (s : State) (n : ℕ) (a : Answer) (sent : List ℕ) (s' : State) → Inv k s → Step s Open n a sent s' → Goes k s (entry Open n sent) a s'
-open_goes k s n a sent s' i d = record {
-  inv = still k s s' i d.head d.sockets d.address d.held;
-  order_one = λ t. cc;
-  order_two = λ t. cc;
-  silent = λ t. d.silent;
-  settings = λ t. inl (d.head.kept.setting t);
-  answer = λ o. let x = tied_open i.one in let y = tied_open i.two in d.answer ∙ rw (x, y) refl;
-}
+  tick_goes : (w : Bool) → leb 16 n ≡ w → Inv k s → Step s (of Tick) s' → Goes k s (of Tick) s'
+  tick_goes true w i d =
+      let c = d.enough (leb-true 16 n w) in
+      let h = c.head in
+      let says = subst (λ (z : ℕ). sent ≡ ended (own_header z) 1 e.one ++ ended (own_header z) 2 e.two) i.address c.packets in
+      let r = tied_after_tick k.address k.last sent s' e i.low (awake k.address k.one k.two (eqb k.address 0) refl i.asleep) i.one i.two h.one h.two c.sockets says in
+      let q = noted (after_tick k) s'.head.setting sent s' (c.address ∙ i.address) i.low (rw c.held i.stands)
+      (λ z. let y = i.asleep z in (ap one_tick_older y.0, ap one_tick_older y.1)) r in
+      record {
+        inv = rw w q.inv;
+        order_one = λ t. q.order_one;
+        order_two = λ t. q.order_two;
+        silent = λ t. cc;
+        settings = λ t. elim (changed s.head s'.head e t h i.one i.two) [ inl y ↦ inl y | inr y ↦ inr (record { tick = refl; room = leb-true 16 n w; why = y }) ];
+        answer = λ o. cc;
+      }
+  tick_goes false w i d = refused k s (of Tick) s' (λ o. cc) w i (d.short (leb-false 16 n w))
 
-pub goes : (k : Book) (s : State) (c : Call) (n : ℕ) (a : Answer) (sent : List ℕ) (s' : State) → InRange s → Inv k s → Step s c n a sent s' → Goes k s (entry c n sent) a s'
-goes k s (Byte b) n a sent s' v i d = byte_goes k s b n a sent s' (leb 16 n) refl v i d
-goes k s Tick n a sent s' v i d = tick_goes k s n a sent s' (leb 16 n) refl i d
-goes k s Open n a sent s' v i d = open_goes k s n a sent s' i d
+  open_goes : Inv k s → Step s (of Open) s' → Goes k s (of Open) s'
+  open_goes i d = record {
+    inv = still k s s' i d.head d.sockets d.address d.held;
+    order_one = λ t. cc;
+    order_two = λ t. cc;
+    silent = λ t. d.silent;
+    settings = λ t. inl (d.head.kept.setting t);
+    answer = λ o. let x = tied_open i.one in let y = tied_open i.two in d.answer ∙ rw (x, y) refl;
+  }
+
+  call_goes : (c : Call) → InRange s → Inv k s → Step s (of c) s' → Goes k s (of c) s'
+  call_goes (Byte b) v i d = byte_goes b (leb 16 n) refl v i d
+  call_goes Tick v i d = tick_goes (leb 16 n) refl i d
+  call_goes Open v i d = open_goes i d
+
+pub goes : (k : Book) (s : State) (r : Record) (s' : State) → InRange s → Inv k s → Step s r s' → Goes k s r s'
+goes k s r s' v i d = call_goes k s r.fed.room r.answer r.fed.sent r.endings s' r.fed.call v i d
 
 -- Every run.
 
@@ -279,13 +292,13 @@ just_made {s = s} d = record {
   two = rw (d.sockets, d.head.slots) rests;
 }
 
-pub in_range_in : {m : Meaning} {h : List Entry} {s : State} → Run m h s → InRange s
-in_range_in (law.Run.made d v) = v
-in_range_in (law.Run.then e a r d v) = v
+pub in_range_in : {m : Meaning} {h : List Record} {s : State} → Run m h s → InRange s
+in_range_in (runs.Run.made d v) = v
+in_range_in (runs.Run.then r x d v) = v
 
-pub kept : {m : Meaning} {h : List Entry} {s : State} → Run m h s → Inv (book_of h) s
-kept (law.Run.made d v) = just_made d
-kept (law.Run.then {h = h} {s = s} {s' = s'} e a r d v) = (goes (book_of h) s e.call e.room a e.sent s' (in_range_in r) (kept r) d).inv
+pub kept : {m : Meaning} {h : List Record} {s : State} → Run m h s → Inv (book_of h) s
+kept (runs.Run.made d v) = just_made d
+kept (runs.Run.then {h = h} {s = s} {s' = s'} r x d v) = (goes (book_of h) s r s' (in_range_in x) (kept x) d).inv
 
 agreement : (k : Book) (s : State) → Inv k s → Agreement k s
 agreement k s i =
@@ -293,9 +306,9 @@ agreement k s i =
     let y = tied_open i.two in
     record { asked = rw (x, y) refl; slot_one = tied_holds i.one; slot_two = tied_holds i.two }
 
-lawful_call : (k : Book) (s : State) (e : Entry) (a : Answer) (s' : State) → WholePackets 2 e.sent → Goes k s e a s' → Law k s e a s'
-lawful_call k s e a s' w g = record {
-  agreement = agreement (after_call k e) s' g.inv;
+lawful_call : (k : Book) (s : State) (r : Record) (s' : State) → WholePackets 2 r.fed.sent → Goes k s r s' → Law k s r s'
+lawful_call k s r s' w g = record {
+  agreement = agreement (after_call k r.fed) s' g.inv;
   whole = w;
   order_one = g.order_one;
   order_two = g.order_two;
@@ -306,39 +319,60 @@ lawful_call k s e a s' w g = record {
   answer = g.answer;
 }
 
-pub call_law : {m : Meaning} {h : List Entry} {s : State} (e : Entry) (a : Answer) (s' : State) → Run m h s → Step s e.call e.room a e.sent s' → Law (book_of h) s e a s'
-call_law {h = h} {s = s} e a s' r d =
-    let v = in_range_in r in
-    let i = kept r in
-    lawful_call (book_of h) s e a s' (whole_packets s e.call e.room a e.sent s' (rw i.address i.low) v i.stands d) (goes (book_of h) s e.call e.room a e.sent s' v i d)
+pub call_law : {m : Meaning} {h : List Record} {s : State} (r : Record) (s' : State) → Run m h s → Step s r s' → Law (book_of h) s r s'
+call_law {h = h} {s = s} r s' x d =
+    let v = in_range_in x in
+    let i = kept x in
+    lawful_call (book_of h) s r s' (whole_packets s r s' (rw i.address i.low) v i.stands d) (goes (book_of h) s r s' v i d)
 
-pub every_run : {m : Meaning} {h : List Entry} {s : State} → Run m h s → Lawful m h s
-every_run (law.Run.made {s = s} d v) = law.Lawful.made d v (agreement fresh s (just_made d))
-every_run (law.Run.then {s' = s'} e a r d v) = law.Lawful.then e a (every_run r) d v (call_law e a s' r d)
+pub every_run : {m : Meaning} {h : List Record} {s : State} → Run m h s → Lawful m h s
+every_run (runs.Run.made {s = s} d v) = law.Lawful.made d v (agreement fresh s (just_made d))
+every_run (runs.Run.then {s' = s'} r x d v) = law.Lawful.then r (every_run x) d v (call_law r s' x d)
 
 pub sockets_agree_in_every_run : SocketsAgreeInEveryRun
 sockets_agree_in_every_run m h s r = every_run r
 
-pub keeps : (s : State) (c : Call) (n : ℕ) (a : Answer) (sent : List ℕ) (s' : State) → InRange s' → Step s c n a sent s' → Keeps s c n a sent s'
-keeps s c n a sent s' v d m h r = record { lawful = every_run (law.Run.then (entry c n sent) a r d v); now = call_law (entry c n sent) a s' r d }
+pub keeps : (s : State) (r : Record) (s' : State) → InRange s' → Step s r s' → Keeps s r s'
+keeps s r s' v d m h x = record { lawful = every_run (runs.Run.then r x d v); now = call_law r s' x d }
+
+-- Calls behind a run.
+
+pub run_behind : {m : Meaning} {before : List Record} {s : State} {h : List Record} {s' : State} → Calls s h s' → Run m before s → Run m (h ++ before) s'
+run_behind runs.Calls.none x = x
+run_behind (runs.Calls.then r c d v) x = runs.Run.then r (run_behind c x) d v
+
+pub runs_go_on : RunsGoOn
+runs_go_on m before h s s' x c = run_behind c x
+
+pub behind : {h : List Record} {s s' : State} → Calls s h s' → LawfulBehind s h s'
+behind c m before x = every_run (run_behind c x)
+
+pub calls_keep_the_law : CallsKeepTheLaw
+calls_keep_the_law s h s' c = behind c
+
+-- one list of calls and then another
+pub calls_then : {h : List Record} {s s' : State} {h' : List Record} {s'' : State} → Calls s h s' → Calls s' h' s'' → Calls s (h' ++ h) s''
+calls_then c runs.Calls.none = c
+calls_then c (runs.Calls.then r c' d v) = runs.Calls.then r (calls_then c c') d v
 
 -- A list of calls.
 
-lawful_run : {m : Meaning} {h : List Entry} {s : State} → Lawful m h s → Run m h s
-lawful_run (law.Lawful.made d v g) = law.Run.made d v
-lawful_run (law.Lawful.then e a r d v l) = law.Run.then e a (lawful_run r) d v
+lawful_run : {m : Meaning} {h : List Record} {s : State} → Lawful m h s → Run m h s
+lawful_run (law.Lawful.made d v g) = runs.Run.made d v
+lawful_run (law.Lawful.then r x d v l) = runs.Run.then r (lawful_run x) d v
 
 pub played_none : {m : Meaning} {s : State} (n : ℕ) → InRange s → Made m s → Played m [] n [] s
-played_none n v d = record { run = []; asked = refl; logged = refl; shared = tt; lawful = every_run (law.Run.made d v) }
+played_none n v d = record { run = []; asked = refl; logged = refl; shared = tt; lawful = every_run (runs.Run.made d v) }
 
 pub played_more : (m : Meaning) (cs : List Call) (n : ℕ) (bs : List ℕ) (s : State) (c : Call) (sent : List ℕ) (s' : State) →
     CallMade c (n - length bs) s sent s' → Played m cs n bs s → Played m (cs ++ c ∷ []) n (bs ++ sent) s'
 played_more m cs n bs s c sent s' d v =
     let room = room_for c (n - length bs) in
+    let r = record_of c room d.answer sent d.endings in
     record {
-      run = entry c room sent ∷ v.run;
+      run = r ∷ v.run;
       asked = ap (λ (x : List Call). x ++ c ∷ []) v.asked;
       logged = ap (λ (x : List ℕ). x ++ sent) v.logged;
       shared = (ap (λ (x : List ℕ). room_for c (n - length x)) (sym v.logged), v.shared);
-      lawful = law.Lawful.then (entry c room sent) d.answer v.lawful d.step d.ranged (call_law (entry c room sent) d.answer s' (lawful_run v.lawful) d.step);
+      lawful = law.Lawful.then r v.lawful d.step d.ranged (call_law r s' (lawful_run v.lawful) d.step);
     }

@@ -1,5 +1,5 @@
 -- What an end sends is whole packets.
-use Rattle.std.proofs.Common.{◌≡◌, ℕ, suc, ◌+◌, ◌≤◌, Bool, true, false, cond, leb, List, [], ◌∷◌, ◌++◌, length, Some, None, Ok, Err, Option, Result, refl, inl, inr, append_assoc, arith, length-append}
+use Rattle.std.proofs.Common.{◌≡◌, ℕ, suc, ◌+◌, ◌≤◌, Bool, true, false, cond, not, leb, List, [], ◌∷◌, ◌++◌, length, Some, None, Ok, Err, Option, Result, refl, inl, inr, append_assoc, arith, length-append}
 use Rattle.std.proofs.lemmas.Bool.{ne_eqb, leb-true, cases_lt, and_parts}
 use Rattle.std.proofs.lemmas.List.{append-nil, length_push}
 use Rattle.end.specs.declared.call.Call.{Call}
@@ -9,8 +9,9 @@ use Rattle.end.specs.Book.{Standing}
 use Rattle.end.specs.Deeds.{other}
 use Rattle.end.specs.Faults.{Answer}
 use Rattle.end.specs.Law.{WholePackets}
+use Rattle.end.specs.Records.{Record, record_of}
 use Rattle.end.specs.Outcomes.{Outcome, own_header, own, framed, met, taken, commanded, requested as asked-for, ended, ticked}
-use Rattle.end.specs.Sockets.{is_open, socket_at, full, free, powering_in}
+use Rattle.end.specs.Sockets.{is_open, socket_at, finds_room, free, powering_in}
 use Rattle.end.specs.States.{State, InRange}
 use Rattle.end.specs.Steps.{Step}
 use Rattle.end.proofs.Asked.{told_plain, told_fits}
@@ -108,7 +109,7 @@ module _ (a : ℕ) (low : a ≤ 7) where
 
   command : (m : Meaning) (k : Sockets) (o : Order) → WholePackets 2 (commanded a m k o).sent
   command m k o =
-      either 2 (full k) _ _ (reply (Error 0 BufferFull) 1)
+      either 2 (not (finds_room k)) _ _ (reply (Error 0 BufferFull) 1)
       (either 2 (forbidden_by m.setting m.pantilt (powering_in k) o) _ _ (reply (Error 0 NotExecutable) 1) (accepted k (free k) o))
 
   request : (m : Meaning) (k : Sockets) (r : Result Request PacketFault) → ((t : Setting) → Small (m.setting t)) → WholePackets 2 (asked-for a m k r).sent
@@ -149,14 +150,17 @@ module _ (a : ℕ) (low : a ≤ 7) where
   ticking : (e : Endings) → WholePackets 2 (ticked a e).sent
   ticking e = ending 1 e.one (ended (own_header a) 2 e.two) 1 (ended_length 2 e.two) (rw append-nil at (ending 2 e.two [] 0 (omega arith) (silent 0)))
 
-pub whole_packets : {st : Standing} (s : State) (c : Call) (room : ℕ) (a : Answer) (sent : List ℕ) (s' : State) →
-    s.address ≤ 7 → InRange s → Stands st s.held → Step s c room a sent s' → WholePackets 2 sent
-whole_packets s (Byte b) room a sent s' low v st d = elim (cases_lt room 16) [
-  | inl less ↦ rw (d.short less).packets (silent 2)
-  | inr enough ↦ rw (d.enough enough).packets (hearing s.address low s.head s.sockets (λ t. small_of t (s.head.setting t) (v.each t)) (heard b st))
-]
-whole_packets s Tick room a sent s' low v st d = elim (cases_lt room 16) [
-  | inl less ↦ rw (d.short less).packets (silent 2)
-  | inr enough ↦ let x = d.enough enough in rw x.1.packets (ticking s.address low x.0)
-]
-whole_packets s Open room a sent s' low v st d = rw d.silent (silent 2)
+module _ {st : Standing} (s : State) (n : ℕ) (a : Answer) (sent : List ℕ) (e : Endings) (s' : State) (low : s.address ≤ 7) (v : InRange s) (stands : Stands st s.held) where
+  by_call : (c : Call) → Step s (record_of c n a sent e) s' → WholePackets 2 sent
+  by_call (Byte b) d = elim (cases_lt n 16) [
+    | inl less ↦ rw (d.short less).packets (silent 2)
+    | inr enough ↦ rw (d.enough enough).packets (hearing s.address low s.head s.sockets (λ t. small_of t (s.head.setting t) (v.each t)) (heard b stands))
+  ]
+  by_call Tick d = elim (cases_lt n 16) [
+    | inl less ↦ rw (d.short less).packets (silent 2)
+    | inr enough ↦ rw (d.enough enough).packets (ticking s.address low e)
+  ]
+  by_call Open d = rw d.silent (silent 2)
+
+pub whole_packets : {st : Standing} (s : State) (r : Record) (s' : State) → s.address ≤ 7 → InRange s → Stands st s.held → Step s r s' → WholePackets 2 r.fed.sent
+whole_packets s r s' low v stands d = by_call s r.fed.room r.answer r.fed.sent r.endings s' low v stands r.fed.call d

@@ -154,7 +154,7 @@ accepted Open room = false
 abbrev pub after_call : Book → Entry → Book
 after_call k e = if accepted e.call e.room then after_replies (before_replies k e.call) e.sent else k
 
--- the book after a run, the newest entry first
-abbrev pub book_of : List Entry → Book
-book_of [] = fresh
-book_of (e ∷ h) = after_call (book_of h) e
+-- the book that was fed these, the newest entry first
+abbrev pub book_fed : List Entry → Book
+book_fed [] = fresh
+book_fed (e ∷ h) = after_call (book_fed h) e

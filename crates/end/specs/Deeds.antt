@@ -70,3 +70,15 @@ sockets_after (cancels y) k = with_socket k y None
 sockets_after (starts y o) k = with_socket k y (Some o)
 sockets_after (displaces y o) k = with_socket (with_socket k (other y) None) y (Some o)
 sockets_after (ticks e) k = record { one = settled e.one k.one; two = settled e.two k.two }
+
+abbrev pub none_ended : Endings
+none_ended = record { one = None; two = None }
+
+-- the endings that the head tells over a deed
+abbrev pub endings_in : Deed → Endings
+endings_in nothing = none_ended
+endings_in clears = none_ended
+endings_in (cancels y) = none_ended
+endings_in (starts y o) = none_ended
+endings_in (displaces y o) = none_ended
+endings_in (ticks e) = e

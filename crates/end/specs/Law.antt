@@ -1,27 +1,24 @@
 -- The law of the sockets, over runs of any length, over any head.
-use Rattle.std.specs.Prelude.{◌≡◌, ℕ, ◌-◌, ◌<◌, ◌≤◌, Bool, true, false, ◌⊎◌, List, [], ◌∷◌, ◌++◌, length, pos, is_some, Some, None, Option}
+use Rattle.std.specs.Prelude.{◌≡◌, ℕ, ◌<◌, ◌≤◌, Bool, true, false, ◌⊎◌, List, [], ◌∷◌, ◌++◌, length, pos, is_some, Some, None, Option, Result}
 use Rattle.std.specs.List.{concat, list_all}
-use Rattle.end.specs.declared.call.Call.{Call}
-use Rattle.end.specs.declared.call.Call.TheVariants.{Byte, Tick, Open}
-use Rattle.end.specs.Book.{Book, Entry, Seen, closed, working, Said, acknowledges, ends, other, said_of, seen_after_said, cut, fresh, before_replies, accepted, after_call, book_of}
-use Rattle.end.specs.Faults.{Answer, opens}
+use Rattle.end.specs.declared.call.Call.TheVariants.{Tick, Open}
+use Rattle.end.specs.Book.{Book, Entry, Seen, closed, working, Said, acknowledges, ends, other, said_of, seen_after_said, cut, fresh, before_replies, accepted, after_call}
+use Rattle.end.specs.declared.faults.Fault.{Fault}
+use Rattle.end.specs.Faults.{opens}
+use Rattle.end.specs.Records.{Record, book_of, call_record}
+use Rattle.end.specs.Runs.{Run, Calls}
 use Rattle.end.specs.Sockets.{is_open}
 use Rattle.end.specs.States.{State, InRange}
 use Rattle.end.specs.Steps.{Made, Step}
 use Rattle.head.specs.declared.order.Order.{Order}
 use Rattle.head.specs.declared.setting.Axis.{Axis}
 use Rattle.head.specs.declared.setting.Setting.{Setting}
+use Rattle.head.specs.declared.outcome.Endings.{Endings}
 use Rattle.head.specs.Meaning.{Meaning, Slot, order_in}
 use Rattle.head.specs.Orders.{parts, names}
 use Rattle.head.specs.Settings.{position, drive}
 use Rattle.rows.specs.Requests.{read_as}
 use Rattle.wire.specs.Packets.{is_packet}
-
--- A run: an end just made of a head that means m gets calls, refused ones included, and each is a step. The head's settings are
--- in range all the while, as those of every head are. The newest entry stands first.
-pub data Run (m : Meaning) : List Entry → State → Type 0 where
-  made : {s : State} → Made m s → InRange s → Run m [] s
-  then : {h : List Entry} {s s' : State} (e : Entry) (a : Answer) → Run m h s → Step s e.call e.room a e.sent s' → InRange s' → Run m (e ∷ h) s'
 
 -- Agreement.
 
@@ -67,6 +64,10 @@ abbrev pub InOrder : ℕ → ℕ → List ℕ → List (List ℕ) → Seen → T
 InOrder a y p [] x = Unit {0}
 InOrder a y p (q ∷ qs) x = Due (said_of a y q) x × InOrder a y p qs (seen_after_said p (said_of a y q) x)
 
+-- the packets that a call sent, read for socket y, which is x as the call's packets begin; k is the book before the call
+abbrev pub InOrderAt : Book → Entry → ℕ → Seen → Type 0
+InOrderAt k e y x = let b = before_replies k e.call in InOrder b.address y b.last (cut e.sent) x
+
 -- fewer than 1,000 accepted ticks since the acknowledgement
 abbrev pub InTime : Seen → Type 0
 InTime closed = Unit {0}
@@ -94,75 +95,49 @@ pub record MayChange (k : Book) (m : Meaning) (e : Entry) (t : Setting) : Type 0
   pub room : 16 ≤ e.room
   pub why : Named k.one t ⊎ Named k.two t ⊎ IsDriven m t
 
--- The law of one call e in state s, answered a, that leads to s'; k is the book before it.
-pub record Law (k : Book) (s : State) (e : Entry) (a : Answer) (s' : State) : Type 0 where
-  pub agreement : Agreement (after_call k e) s'
-  pub whole : WholePackets 2 e.sent
+-- The law of one call in state s, of which r is the record, that leads to s'; k is the book before it.
+pub record Law (k : Book) (s : State) (r : Record) (s' : State) : Type 0 where
+  pub agreement : Agreement (after_call k r.fed) s'
+  pub whole : WholePackets 2 r.fed.sent
   -- the packets that an accepted call sent, as the book reads them
-  pub order_one : accepted e.call e.room ≡ true → InOrder (before_replies k e.call).address 1 (before_replies k e.call).last (cut e.sent) (before_replies k e.call).one
-  pub order_two : accepted e.call e.room ≡ true → InOrder (before_replies k e.call).address 2 (before_replies k e.call).last (cut e.sent) (before_replies k e.call).two
+  pub order_one : accepted r.fed.call r.fed.room ≡ true → InOrderAt k r.fed 1 (before_replies k r.fed.call).one
+  pub order_two : accepted r.fed.call r.fed.room ≡ true → InOrderAt k r.fed 2 (before_replies k r.fed.call).two
   -- any other sent nothing
-  pub silent : accepted e.call e.room ≡ false → e.sent ≡ []
-  pub time_one : InTime (after_call k e).one
-  pub time_two : InTime (after_call k e).two
-  pub settings : (t : Setting) → (s'.head.setting t ≡ s.head.setting t) ⊎ MayChange k s.head e t
+  pub silent : accepted r.fed.call r.fed.room ≡ false → r.fed.sent ≡ []
+  pub time_one : InTime (after_call k r.fed).one
+  pub time_two : InTime (after_call k r.fed).two
+  pub settings : (t : Setting) → (s'.head.setting t ≡ s.head.setting t) ⊎ MayChange k s.head r.fed t
   -- a question which sockets are open was answered as the book has it
-  pub answer : e.call ≡ Open → a ≡ opens (open_by k.one) (open_by k.two)
+  pub answer : r.fed.call ≡ Open → r.answer ≡ opens (open_by k.one) (open_by k.two)
 
 -- a run of which the law holds after each call
-pub data Lawful (m : Meaning) : List Entry → State → Type 0 where
+pub data Lawful (m : Meaning) : List Record → State → Type 0 where
   made : {s : State} → Made m s → InRange s → Agreement fresh s → Lawful m [] s
-  then : {h : List Entry} {s s' : State} (e : Entry) (a : Answer) →
-      Lawful m h s → Step s e.call e.room a e.sent s' → InRange s' → Law (book_of h) s e a s' → Lawful m (e ∷ h) s'
+  then : {h : List Record} {s s' : State} (r : Record) →
+      Lawful m h s → Step s r s' → InRange s' → Law (book_of h) s r s' → Lawful m (r ∷ h) s'
 
 -- every run is lawful
 abbrev pub SocketsAgreeInEveryRun : Type 0
-SocketsAgreeInEveryRun = (m : Meaning) (h : List Entry) (s : State) → Run m h s → Lawful m h s
-
-abbrev pub entry : Call → ℕ → List ℕ → Entry
-entry c n sent = record { call = c; room = n; sent = sent }
+SocketsAgreeInEveryRun = (m : Meaning) (h : List Record) (s : State) → Run m h s → Lawful m h s
 
 -- what a call owes to every run that leads to it: the run with this call is a run, the law holds after each of its calls, and
 -- after this one with what it answered
-pub record LawKept (m : Meaning) (h : List Entry) (s : State) (e : Entry) (a : Answer) (s' : State) : Type 0 where
-  pub lawful : Lawful m (e ∷ h) s'
-  pub now : Law (book_of h) s e a s'
+pub record LawKept (m : Meaning) (h : List Record) (s : State) (r : Record) (s' : State) : Type 0 where
+  pub lawful : Lawful m (r ∷ h) s'
+  pub now : Law (book_of h) s r s'
 
-abbrev pub Keeps : State → Call → ℕ → Answer → List ℕ → State → Type 0
-Keeps s c n a sent s' = (m : Meaning) (h : List Entry) → Run m h s → LawKept m h s (entry c n sent) a s'
+abbrev pub Keeps : State → Record → State → Type 0
+Keeps s r s' = (m : Meaning) (h : List Record) → Run m h s → LawKept m h s r s'
 
--- A list of calls played on a fresh end, all with one log.
+-- a tick, on a buffer that held `old` and then holds `new`, is a step and keeps the law, with some endings that the head told
+pub record Ticks (s : State) (old : List ℕ) (r : Result ℕ Fault) (new : List ℕ) (s' : State) : Type 0 where
+  pub endings : Endings
+  pub step : Step s (call_record Tick old r new endings) s'
+  pub law : Keeps s (call_record Tick old r new endings) s'
 
--- the calls of a run and the bytes that it sent, the oldest first
-abbrev pub calls_of : List Entry → List Call
-calls_of [] = []
-calls_of (e ∷ h) = calls_of h ++ e.call ∷ []
+-- calls from s to s' keep it too: behind every run that leads to s they are a run, and the law holds after each
+abbrev pub LawfulBehind : State → List Record → State → Type 0
+LawfulBehind s h s' = (m : Meaning) (before : List Record) → Run m before s → Lawful m (h ++ before) s'
 
-abbrev pub sent_by : List Entry → List ℕ
-sent_by [] = []
-sent_by (e ∷ h) = sent_by h ++ e.sent
-
-abbrev pub room_for : Call → ℕ → ℕ
-room_for (Byte b) n = n
-room_for Tick n = n
-room_for Open n = 0
-
--- each byte and tick had as its buffer what a log of n bytes had left
-abbrev pub Shared : ℕ → List Entry → Type 0
-Shared n [] = Unit {0}
-Shared n (e ∷ h) = (e.room ≡ room_for e.call (n - length (sent_by h))) × Shared n h
-
--- a call that finds so much room leads from s to s', in range, and sends these bytes
-pub record CallMade (c : Call) (room : ℕ) (s : State) (sent : List ℕ) (s' : State) : Type 0 where
-  pub answer : Answer
-  pub step : Step s c (room_for c room) answer sent s'
-  pub ranged : InRange s'
-
--- these calls were made in turn on an end just made of a head that means m, the bytes are what was sent, s is the state they
--- came to, and the law held after each of them
-pub record Played (m : Meaning) (calls : List Call) (n : ℕ) (bytes : List ℕ) (s : State) : Type 0 where
-  pub run : List Entry
-  pub asked : calls_of run ≡ calls
-  pub logged : sent_by run ≡ bytes
-  pub shared : Shared n run
-  pub lawful : Lawful m run s
+abbrev pub CallsKeepTheLaw : Type 0
+CallsKeepTheLaw = (s : State) (h : List Record) (s' : State) → Calls s h s' → LawfulBehind s h s'

@@ -3,8 +3,11 @@ pub mod Faults
 pub mod States
 pub mod Deeds
 pub mod Outcomes
-pub mod Steps
 pub mod Book
+pub mod Records
+pub mod Steps
+pub mod Runs
 pub mod Law
+pub mod Played
 pub mod Promises
 pub mod Tried

@@ -1,12 +1,12 @@
 -- What comes of a byte, by the end's address a, what its head means m, and its sockets k: a fault if any, the bytes sent,
 -- the address then, and the deed.
-use Rattle.std.specs.Prelude.{ℕ, ◌+◌, ◌*◌, if◌then◌else◌, List, [], ◌∷◌, ◌++◌, length, Some, None, Ok, Err, Option, Result}
+use Rattle.std.specs.Prelude.{ℕ, ◌+◌, ◌*◌, if◌then◌else◌, not, List, [], ◌∷◌, ◌++◌, length, Some, None, Ok, Err, Option, Result}
 use Rattle.end.specs.declared.faults.Cause.{Cause}
 use Rattle.end.specs.declared.faults.Cause.TheVariants.{Framing, Packet}
 use Rattle.end.specs.declared.socket.Sockets.{Sockets}
 use Rattle.end.specs.Deeds.{Deed, nothing, clears, cancels, starts, displaces, ticks, other}
 use Rattle.end.specs.Faults.{Answer, counts, faults, cause_code}
-use Rattle.end.specs.Sockets.{is_open, socket_at, full, free, powering_in}
+use Rattle.end.specs.Sockets.{is_open, socket_at, finds_room, free, powering_in}
 use Rattle.head.specs.declared.order.Order.{Order}
 use Rattle.head.specs.declared.outcome.Ending.{Ending}
 use Rattle.head.specs.declared.outcome.Ending.TheVariants.{Done, Jammed}
@@ -59,7 +59,11 @@ taken a k y o =
 -- an admitted command
 abbrev pub commanded : ℕ → Meaning → Sockets → Order → Outcome
 commanded a m k o =
-    if full k then sends a (own a (Error 0 BufferFull)) else (if forbidden_by m.setting m.pantilt (powering_in k) o then sends a (own a (Error 0 NotExecutable)) else taken a k (free k) o)
+    if not (finds_room k)
+    then sends a (own a (Error 0 BufferFull))
+    else (if forbidden_by m.setting m.pantilt (powering_in k) o
+    then sends a (own a (Error 0 NotExecutable))
+    else taken a k (free k) o)
 
 abbrev pub requested : ℕ → Meaning → Sockets → Result Request PacketFault → Outcome
 requested a m k (Ok (Command row c)) = commanded a m k (order_of c)

@@ -1,5 +1,5 @@
 -- The two sockets of an end. A socket is closed, or open with the order that its command was read as.
-use Rattle.std.specs.Prelude.{ℕ, Bool, true, false, if◌then◌else◌, ◌&&◌, ◌||◌, Some, None, Option, ◌==◌}
+use Rattle.std.specs.Prelude.{ℕ, Bool, true, false, if◌then◌else◌, not, ◌||◌, Some, None, Option, ◌==◌}
 use Rattle.head.specs.declared.order.Order.{Order}
 use Rattle.rules.specs.Modes.{powers_on}
 use Rattle.end.specs.declared.socket.Sockets.{Sockets}
@@ -34,8 +34,9 @@ socket_at k y = if y == 1 then k.one else (if y == 2 then k.two else None)
 abbrev pub with_socket : Sockets → ℕ → Option Order → Sockets
 with_socket k y x = record { one = if y == 1 then x else k.one; two = if y == 2 then x else k.two }
 
-abbrev pub full : Sockets → Bool
-full k = is_open k.one && is_open k.two
+-- whether a command finds room: a socket is closed
+abbrev pub finds_room : Sockets → Bool
+finds_room k = not (is_open k.one) || not (is_open k.two)
 
 -- the socket that a command gets: 1 if it is closed, else 2
 abbrev pub free : Sockets → ℕ

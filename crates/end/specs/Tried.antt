@@ -2,10 +2,11 @@
 use Rattle.std.specs.Prelude.{◌≡◌, ℕ, true, List, [], ◌∷◌, ◌++◌, Some}
 use Rattle.end.specs.declared.call.Call.TheVariants.{Byte, Tick, Open}
 use Rattle.end.specs.declared.socket.Sockets.{Sockets}
-use Rattle.end.specs.Book.{Entry, Seen, closed, working, book_of}
+use Rattle.end.specs.Book.{Entry, Seen, closed, working, book_fed}
 use Rattle.end.specs.Deeds.{sockets_after, both_idle}
-use Rattle.end.specs.Law.{SlotAgrees, WholePackets, InOrder, InTime, entry}
+use Rattle.end.specs.Law.{SlotAgrees, WholePackets, InOrder, InTime}
 use Rattle.end.specs.Outcomes.{met}
+use Rattle.end.specs.Records.{entry}
 use Rattle.end.specs.Sockets.{both_closed}
 use Rattle.head.specs.declared.order.Order.{Order}
 use Rattle.head.specs.Meaning.{Meaning, idle, busy}
@@ -151,7 +152,7 @@ readings =
 
 abbrev books : List Reading → List (ℕ × Seen × Seen)
 books [] = []
-books (r ∷ rs) = let k = book_of (run_of r.parts []) in (k.address, k.one, k.two) ∷ books rs
+books (r ∷ rs) = let k = book_fed (run_of r.parts []) in (k.address, k.one, k.two) ∷ books rs
 
 abbrev books_wanted : List Reading → List (ℕ × Seen × Seen)
 books_wanted [] = []

@@ -1,13 +1,14 @@
 //! The calls on an end: make, byte, tick, open, take off.
 
 ghost use Rattle.std.specs.Prelude.{◌≡◌, ℕ, Some, ◌<◌, ◌≤◌, [], ◌++◌, length, take, drop, OnOk, IfErr};
-ghost use Rattle.end.specs.Deeds.{Cleared, settled as settled_by};
-ghost use Rattle.end.specs.Faults.{answered, count_told, opens, refused};
-ghost use Rattle.end.specs.Law.{Keeps};
+ghost use Rattle.end.specs.Deeds.{Cleared, settled as settled_by, none_ended};
+ghost use Rattle.end.specs.Faults.{count_told, opens, refused};
+ghost use Rattle.end.specs.Law.{Keeps, Ticks};
 ghost use Rattle.end.specs.Outcomes.{ended as ended_by};
+ghost use Rattle.end.specs.Records.{record_of, call_record};
 ghost use Rattle.end.specs.Sockets.{socket_number};
 ghost use Rattle.end.specs.States.{meaning, state};
-ghost use Rattle.end.specs.Steps.{Made, Step};
+ghost use Rattle.end.specs.Steps.{Made, Step, StepTold};
 ghost use Rattle.rules.specs.Replies.{packet as packet_of};
 
 use crate::call::Call;
@@ -99,7 +100,7 @@ impl<H: Head> End<H> {
     // of the code; so it is for a tick.
     #[inline]
     fn take_byte(&mut self, byte: u8, out: &mut [u8]) -> Result<usize, Fault>
-        ensures step { Step (state self.old) (Call.Byte byte) (length out.old) (answered result) (take (count_told result) out.new) (state self.new) }
+        ensures step { Step (state self.old) (call_record (Call.Byte byte) out.old result out.new none_ended) (state self.new) }
         ensures untouched { drop (count_told result) out.new ≡ drop (count_told result) out.old }
     {
         room(out)?;
@@ -112,7 +113,7 @@ impl<H: Head> End<H> {
 
     #[inline(always)]
     fn take_tick(&mut self, out: &mut [u8]) -> Result<usize, Fault>
-        ensures step { Step (state self.old) Call.Tick (length out.old) (answered result) (take (count_told result) out.new) (state self.new) }
+        ensures ticked { StepTold (state self.old) Call.Tick out.old result out.new (state self.new) }
         ensures untouched { drop (count_told result) out.new ≡ drop (count_told result) out.old }
     {
         room(out)?;
@@ -130,10 +131,10 @@ impl<H: Head> End<H> {
     /// the count, or a fault with the count sent.
     #[inline]
     pub fn byte(&mut self, byte: u8, out: &mut [u8]) -> Result<usize, Fault>
-        ensures step { Step (state self.old) (Call.Byte byte) (length out.old) (answered result) (take (count_told result) out.new) (state self.new) }
+        ensures step { Step (state self.old) (call_record (Call.Byte byte) out.old result out.new none_ended) (state self.new) }
         ensures untouched { drop (count_told result) out.new ≡ drop (count_told result) out.old }
         ensures within { count_told result ≤ length out.new }
-        ensures law { Keeps (state self.old) (Call.Byte byte) (length out.old) (answered result) (take (count_told result) out.new) (state self.new) }
+        ensures law { Keeps (state self.old) (call_record (Call.Byte byte) out.old result out.new none_ended) (state self.new) }
     {
         self.take_byte(byte, out)
     }
@@ -141,18 +142,17 @@ impl<H: Head> End<H> {
     /// Ticks the head once. Socket 1 and then 2 sends its ending, if its order ended, and closes.
     #[inline(always)]
     pub fn tick(&mut self, out: &mut [u8]) -> Result<usize, Fault>
-        ensures step { Step (state self.old) Call.Tick (length out.old) (answered result) (take (count_told result) out.new) (state self.new) }
+        ensures ticked { Ticks (state self.old) out.old result out.new (state self.new) }
         ensures untouched { drop (count_told result) out.new ≡ drop (count_told result) out.old }
         ensures within { count_told result ≤ length out.new }
-        ensures law { Keeps (state self.old) Call.Tick (length out.old) (answered result) (take (count_told result) out.new) (state self.new) }
     {
         self.take_tick(out)
     }
 
     /// Which sockets are open.
     pub fn open(&self) -> OpenSockets
-        ensures step { Step (state self.now) Call.Open 0 (opens result.one result.two) [] (state self.now) }
-        ensures law { Keeps (state self.now) Call.Open 0 (opens result.one result.two) [] (state self.now) }
+        ensures step { Step (state self.now) (record_of Call.Open 0 (opens result.one result.two) [] none_ended) (state self.now) }
+        ensures law { Keeps (state self.now) (record_of Call.Open 0 (opens result.one result.two) [] none_ended) (state self.now) }
     {
         self.sockets.open()
     }

@@ -4,7 +4,7 @@ ghost use Rattle.std.specs.Prelude.{◌≡◌, ◌≤◌, length, take, drop, Ok
 ghost use Rattle.end.specs.Outcomes.{own, own_header as own_header_of, taken as taken_by, commanded as commanded_by, requested as requested_by, cancelled as cancelled_by, met as met_by};
 ghost use Rattle.end.specs.Sockets.{socket_number, powering_in};
 ghost use Rattle.end.specs.States.{state};
-ghost use Rattle.end.specs.Steps.{Came};
+ghost use Rattle.end.specs.Steps.{CameOf};
 ghost use Rattle.end.specs.Faults.{answered as answered_of, count_told, counts};
 ghost use Rattle.rules.specs.Modes.{forbidden_by};
 ghost use Rattle.rules.specs.Ring.{rule_of};
@@ -54,7 +54,7 @@ impl<H: Head> End<H> {
     // A command for a socket, with the other's displaced where it names a common setting.
     fn accept(&mut self, which: Which, order: &Order, out: &mut [u8]) -> usize
         requires { 16 ≤ length out.old }
-        ensures came { Came (state self.old) (state self.old).held (taken_by self.old.address self.old.sockets (socket_number which) order.now) (counts result) (take result out.new) (state self.new) }
+        ensures came { CameOf (state self.old) (taken_by self.old.address self.old.sockets (socket_number which) order.now) (counts result) (take result out.new) (state self.new) }
         ensures untouched { drop result out.new ≡ drop result out.old }
     {
         let other = which.other();
@@ -75,10 +75,10 @@ impl<H: Head> End<H> {
     // An admitted command.
     fn command(&mut self, command: &Command, out: &mut [u8]) -> usize
         requires { 16 ≤ length out.old }
-        ensures came { Came (state self.old) (state self.old).held (commanded_by self.old.address (state self.old).head self.old.sockets (order_of command.now)) (counts result) (take result out.new) (state self.new) }
+        ensures came { CameOf (state self.old) (commanded_by self.old.address (state self.old).head self.old.sockets (order_of command.now)) (counts result) (take result out.new) (state self.new) }
         ensures untouched { drop result out.new ≡ drop result out.old }
     {
-        if self.sockets.full() {
+        if !self.sockets.has_room() {
             return self.send(Reply::Error(0, Problem::BufferFull), out);
         }
         let order = command.order();
@@ -92,7 +92,7 @@ impl<H: Head> End<H> {
     // A cancel of the command in the socket with this number.
     fn cancel(&mut self, number: u8, out: &mut [u8]) -> usize
         requires { 16 ≤ length out.old }
-        ensures came { Came (state self.old) (state self.old).held (cancelled_by self.old.address self.old.sockets number) (counts result) (take result out.new) (state self.new) }
+        ensures came { CameOf (state self.old) (cancelled_by self.old.address self.old.sockets number) (counts result) (take result out.new) (state self.new) }
         ensures untouched { drop result out.new ≡ drop result out.old }
     {
         match Which::numbered(number) {
@@ -121,7 +121,7 @@ impl<H: Head> End<H> {
     #[inline(always)]
     fn request(&mut self, body: &[u8], out: &mut [u8]) -> Result<usize, Fault>
         requires { 16 ≤ length out.old }
-        ensures came { Came (state self.old) (state self.old).held (requested_by self.old.address (state self.old).head self.old.sockets (read_body body.now)) (answered_of result) (take (count_told result) out.new) (state self.new) }
+        ensures came { CameOf (state self.old) (requested_by self.old.address (state self.old).head self.old.sockets (read_body body.now)) (answered_of result) (take (count_told result) out.new) (state self.new) }
         ensures untouched { drop (count_told result) out.new ≡ drop (count_told result) out.old }
     {
         match read(body) {
@@ -138,7 +138,7 @@ impl<H: Head> End<H> {
     #[inline(always)]
     pub(crate) fn meet(&mut self, packet: &Packet, out: &mut [u8]) -> Result<usize, Fault>
         requires { 16 ≤ length out.old }
-        ensures came { Came (state self.old) (state self.old).held (met_by self.old.address (state self.old).head self.old.sockets (bytes_of packet.now) (rule_of self.old.address (bytes_of packet.now))) (answered_of result) (take (count_told result) out.new) (state self.new) }
+        ensures came { CameOf (state self.old) (met_by self.old.address (state self.old).head self.old.sockets (bytes_of packet.now) (rule_of self.old.address (bytes_of packet.now))) (answered_of result) (take (count_told result) out.new) (state self.new) }
         ensures untouched { drop (count_told result) out.new ≡ drop (count_told result) out.old }
     {
         self.by_rule(packet, out)
@@ -148,7 +148,7 @@ impl<H: Head> End<H> {
     #[inline(never)]
     fn by_rule(&mut self, packet: &Packet, out: &mut [u8]) -> Result<usize, Fault>
         requires { 16 ≤ length out.old }
-        ensures came { Came (state self.old) (state self.old).held (met_by self.old.address (state self.old).head self.old.sockets (bytes_of packet.now) (rule_of self.old.address (bytes_of packet.now))) (answered_of result) (take (count_told result) out.new) (state self.new) }
+        ensures came { CameOf (state self.old) (met_by self.old.address (state self.old).head self.old.sockets (bytes_of packet.now) (rule_of self.old.address (bytes_of packet.now))) (answered_of result) (take (count_told result) out.new) (state self.new) }
         ensures untouched { drop (count_told result) out.new ≡ drop (count_told result) out.old }
     {
         match Rule::of(self.address, packet) {

@@ -1,12 +1,23 @@
 //! What the law over runs means for whoever sends commands: statements that the check holds the
 //! definitions to.
 
-ghost use Rattle.end.specs.Law.{SocketsAgreeInEveryRun};
+ghost use Rattle.end.specs.Law.{CallsKeepTheLaw, SocketsAgreeInEveryRun};
 ghost use Rattle.end.specs.Promises.{ACancelIsNeverRefused, AWholeCancelIsNeverRefused, EveryAcknowledgedCommandIsEnded, WhatIsSentIsWholePackets};
+ghost use Rattle.end.specs.Runs.{RunsGoOn};
 
 /// In every run, over any head, the law holds after each call.
 pub fn sockets_agree_in_every_run()
     ensures { SocketsAgreeInEveryRun }
+{}
+
+/// A run with calls behind it is a run.
+pub fn runs_go_on()
+    ensures { RunsGoOn }
+{}
+
+/// So the law holds after each of those calls, whatever run led to them.
+pub fn calls_keep_the_law()
+    ensures { CallsKeepTheLaw }
 {}
 
 /// A cancel of an open socket is never refused: its ending is sent and the socket is closed.

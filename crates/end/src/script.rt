@@ -1,7 +1,7 @@
 //! A list of calls, played on a fresh end.
 
 ghost use Rattle.std.specs.Prelude.{◌≡◌, ◌+◌, ◌-◌, ◌≤◌, length, take, drop};
-ghost use Rattle.end.specs.Law.{Played, CallMade};
+ghost use Rattle.end.specs.Played.{Played, CallMade};
 ghost use Rattle.end.specs.States.{meaning, state};
 
 use crate::call::Call;

@@ -2,7 +2,7 @@
 
 ghost use Rattle.std.specs.Prelude.{◌≡◌, Some, None};
 ghost use Rattle.end.specs.Deeds.{other as other_of};
-ghost use Rattle.end.specs.Sockets.{is_open, socket_number as number_of, socket_numbered, socket_at, with_socket, full as full_of, free as free_of, powering_in};
+ghost use Rattle.end.specs.Sockets.{is_open, socket_number as number_of, socket_numbered, socket_at, with_socket, finds_room, free as free_of, powering_in};
 ghost use Rattle.head.specs.Meaning.{in_use, lent};
 
 use head::Order;
@@ -123,11 +123,11 @@ impl Sockets {
         }
     }
 
-    /// Whether both are open.
-    pub(crate) fn full(&self) -> bool
-        ensures { result ≡ full_of self.now }
+    /// Whether a command finds room: one of them is closed.
+    pub(crate) fn has_room(&self) -> bool
+        ensures { result ≡ finds_room self.now }
     {
-        self.one.is_some() && self.two.is_some()
+        self.one.is_none() || self.two.is_none()
     }
 
     /// Whether the order of one of them switches power on.

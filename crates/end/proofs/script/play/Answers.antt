@@ -3,7 +3,7 @@ use Rattle.std.proofs.Math.Seq.{take-add}
 use Rattle.std.proofs.lemmas.List.{drop-drop, take_more, take_all, length-take-le}
 use Rattle.end.specs.declared.call.Call.{Call}
 use Rattle.end.specs.declared.call.Call.TheVariants.{Byte}
-use Rattle.end.specs.Law.{Played}
+use Rattle.end.specs.Played.{Played}
 use Rattle.end.specs.States.{meaning, state}
 use Rattle.end.proofs.Runs.{played_more, played_none}
 use Rattle.end.proofs.script.play.Goals as goal

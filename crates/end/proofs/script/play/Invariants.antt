@@ -1,5 +1,5 @@
 use Rattle.std.proofs.Common.{◌≡◌, ◌≤◌, length, take, drop}
-use Rattle.end.specs.Law.{Played}
+use Rattle.end.specs.Played.{Played}
 use Rattle.end.specs.States.{state}
 use Rattle.end.specs.Steps.{Made}
 use Rattle.head.specs.Meaning.{Meaning}
