@@ -6,8 +6,8 @@ use Rattle.end.proofs.Spoken.{Plain}
 use Rattle.head.specs.declared.setting.Setting.{Setting}
 use Rattle.head.specs.declared.setting.Setting.TheVariants.{Pan, Tilt}
 use Rattle.head.specs.Settings.{Small}
-use Rattle.rows.specs.declared.inquiries.Form.{Form}
-use Rattle.rows.specs.declared.inquiries.Form.TheVariants.{Digit, Level, Number, PanTilt}
+use Rattle.rows.specs.declared.inquiry.Form.{Form}
+use Rattle.rows.specs.declared.inquiry.Form.TheVariants.{Digit, Level, Number, PanTilt}
 use Rattle.rows.specs.Answers as inquiry
 use Rattle.rows.specs.Digits.{bits, digits}
 

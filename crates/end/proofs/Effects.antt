@@ -6,7 +6,6 @@ use Rattle.std.proofs.lemmas.List.{append-nil}
 use Rattle.end.specs.declared.socket.Sockets.{Sockets}
 use Rattle.end.specs.Book.{Seen, closed, working, other as nothing_said}
 use Rattle.end.specs.Deeds.{DidHead, sockets_after, clears, starts, displaces, Given}
-use Rattle.end.specs.Law.{order_asked, read_as}
 use Rattle.end.specs.Outcomes.{Outcome, own_header, own, sends, does, taken, requested, cancelled}
 use Rattle.end.specs.Sockets.{finds_room, free, powering_in, socket_at}
 use Rattle.end.specs.States.{State}
@@ -22,13 +21,14 @@ use Rattle.head.specs.Meaning.{Meaning, Slot, Slots, idle, busy, order_in, reaso
 use Rattle.head.specs.Orders.{parts, all_in_range, any_pan_tilt}
 use Rattle.head.specs.Settings.{Small}
 use Rattle.rows.specs.declared.faults.PacketFault.{PacketFault}
-use Rattle.rows.specs.declared.inquiries.Form.{Form}
-use Rattle.rows.specs.declared.inquiries.Form.TheVariants.{Digit, Level, Number, PanTilt}
-use Rattle.rows.specs.declared.inquiries.Inquiry.{Inquiry}
+use Rattle.rows.specs.declared.inquiry.Form.{Form}
+use Rattle.rows.specs.declared.inquiry.Form.TheVariants.{Digit, Level, Number, PanTilt}
+use Rattle.rows.specs.declared.inquiry.Inquiry.{Inquiry}
 use Rattle.rows.specs.declared.request.Request.{Request}
 use Rattle.rows.specs.declared.request.Request.TheVariants.{Command, Ask}
 use Rattle.rows.specs.Answers as inquiry
-use Rattle.rows.specs.Requests.{read_body}
+use Rattle.rows.specs.Orders.{order_of, subject}
+use Rattle.rows.specs.Requests.{order_asked, read_as, read_body}
 use Rattle.rows.proofs.Ranged.{body_in_range}
 use Rattle.rules.specs.declared.reply.Problem.TheVariants.{Syntax, BufferFull, Cancelled as CancelledCommand, NoSocket, NotExecutable}
 use Rattle.rules.specs.declared.reply.Reply.{Reply}
@@ -190,11 +190,11 @@ module _ (f : Setting → ℤ) (pt : Bool) (a : ℕ) (p sent : List ℕ) (s' : S
     forbidden o (works x y z) rests d = replied (Error 0 NotExecutable) refl refl (works x y z) rests d
     forbidden o (works x y z) (works x' y' z') d = replied (Error 0 BufferFull) refl refl (works x y z) (works x' y' z') d
 
-    command : {l₁ l₂ : Seen} {x₁ x₂ : Option Order} {c₁ c₂ : Slot} (t : Bool) (o : Order) → read_as p ≡ Some o → all_in_range (parts o.targets) ≡ true →
-        forbidden_by f pt (powering_in (both x₁ x₂)) o ≡ t → Tied l₁ x₁ c₁ → Tied l₂ x₂ c₂ →
+    command : {l₁ l₂ : Seen} {x₁ x₂ : Option Order} {c₁ c₂ : Slot} (t : Bool) (row : Setting) (o : Order) → read_as p ≡ Some o → all_in_range (parts o.targets) ≡ true →
+        forbidden_by f pt (powering_in (both x₁ x₂)) row o ≡ t → Tied l₁ x₁ c₁ → Tied l₂ x₂ c₂ →
         Done (commanded_if t (both x₁ x₂) o) x₁ x₂ c₁ c₂ → After a p l₁ l₂ sent f s'
-    command true o r ranged e t₁ t₂ d = forbidden o t₁ t₂ d
-    command false o r ranged e t₁ t₂ d = allowed o r (record { ranged = ranged; able = (or_parts _ (not pt && any_pan_tilt (parts o.targets)) e).1 }) t₁ t₂ d
+    command true row o r ranged e t₁ t₂ d = forbidden o t₁ t₂ d
+    command false row o r ranged e t₁ t₂ d = allowed o r (record { ranged = ranged; able = (or_parts _ (not pt && any_pan_tilt (parts o.targets)) e).1 }) t₁ t₂ d
 
     -- a cancel
     cancel_one : {l₁ l₂ : Seen} {x₁ x₂ : Option Order} {c₁ c₂ : Slot} → Tied l₁ x₁ c₁ → Tied l₂ x₂ c₂ → Done (cancelled a (both x₁ x₂) 1) x₁ x₂ c₁ c₂ → After a p l₁ l₂ sent f s'
@@ -247,7 +247,8 @@ module _ (f : Setting → ℤ) (pt : Bool) (a : ℕ) (p sent : List ℕ) (s' : S
     -- any other body
     pub request : {l₁ l₂ : Seen} {x₁ x₂ : Option Order} {c₁ c₂ : Slot} (r : Result Request PacketFault) → read_body (body_of p) ≡ r → ((t : Setting) → Small (f t)) → Tied l₁ x₁ c₁ → Tied l₂ x₂ c₂ →
         Done (requested a (head_of c₁ c₂) (both x₁ x₂) r) x₁ x₂ c₁ c₂ → After a p l₁ l₂ sent f s'
-    request {x₁ = x₁} {x₂ = x₂} (Ok (Command row o)) e small t₁ t₂ d =
-        command (forbidden_by f pt (powering_in (both x₁ x₂)) o) o (ap order_asked e) (body_in_range (body_of p) row o e) refl t₁ t₂ d
+    request {x₁ = x₁} {x₂ = x₂} (Ok (Command place c)) e small t₁ t₂ d =
+        let o = order_of c in
+        command (forbidden_by f pt (powering_in (both x₁ x₂)) (subject c) o) (subject c) o (ap order_asked e) (body_in_range (body_of p) place c e) refl t₁ t₂ d
     request (Ok (Ask q)) e small t₁ t₂ d = inquire q small t₁ t₂ d
     request (Err f) e small t₁ t₂ d = replied (Error 0 Syntax) refl refl t₁ t₂ (record { packets = d.packets; head = d.head; sockets = d.sockets })

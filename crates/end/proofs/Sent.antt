@@ -26,10 +26,12 @@ use Rattle.head.specs.declared.setting.Setting.{Setting}
 use Rattle.head.specs.Meaning.{Meaning, in_use}
 use Rattle.head.specs.Settings.{Small}
 use Rattle.head.proofs.Bounds.{small as small_of}
+use Rattle.rows.specs.declared.command.Command as says
 use Rattle.rows.specs.declared.faults.PacketFault.{PacketFault}
 use Rattle.rows.specs.declared.request.Request.{Request}
 use Rattle.rows.specs.declared.request.Request.TheVariants.{Command, Ask}
 use Rattle.rows.specs.Answers as inquiry
+use Rattle.rows.specs.Orders.{order_of, subject}
 use Rattle.rows.specs.Requests.{read_body}
 use Rattle.rules.specs.declared.reply.Problem.TheVariants.{Syntax, BufferFull, Cancelled as CancelledCommand, NoSocket, NotExecutable}
 use Rattle.rules.specs.declared.reply.Reply.{Reply}
@@ -107,13 +109,14 @@ module _ (a : ℕ) (low : a ≤ 7) where
       (reply_in_front (Error (other y) CancelledCommand) (own a (Acknowledgement y)) 1 (omega arith) (reply (Acknowledgement y) 0))
       (reply (Acknowledgement y) 1)
 
-  command : (m : Meaning) (k : Sockets) (o : Order) → WholePackets 2 (commanded a m k o).sent
-  command m k o =
+  command : (m : Meaning) (k : Sockets) (c : says.Command) → WholePackets 2 (commanded a m k c).sent
+  command m k c =
       either 2 (not (finds_room k)) _ _ (reply (Error 0 BufferFull) 1)
-      (either 2 (forbidden_by m.setting m.pantilt (powering_in k) o) _ _ (reply (Error 0 NotExecutable) 1) (accepted k (free k) o))
+      (either 2 (forbidden_by m.setting m.pantilt (powering_in k) (subject c) (order_of c)) _ _ (reply (Error 0 NotExecutable) 1)
+      (accepted k (free k) (order_of c)))
 
   request : (m : Meaning) (k : Sockets) (r : Result Request PacketFault) → ((t : Setting) → Small (m.setting t)) → WholePackets 2 (asked-for a m k r).sent
-  request m k (Ok (Command row o)) small = command m k o
+  request m k (Ok (Command place c)) small = command m k c
   request m k (Ok (Ask q)) small =
       let f = told_fits m.setting m.pantilt q.form q.setting in
       answered (inquiry.answer_body q.form m.setting q.setting m.pantilt) (told_plain m.setting m.pantilt small q.form q.setting) f.some f.few

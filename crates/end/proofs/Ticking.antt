@@ -3,7 +3,7 @@ use Rattle.std.proofs.Common.{◌≡◌, ℕ, zero, suc, ◌+◌, ◌-◌, ◌�
 use Rattle.end.specs.declared.socket.Sockets.{Sockets}
 use Rattle.end.specs.Book.{Seen, closed, working, one_tick_older}
 use Rattle.end.specs.Deeds.{settled}
-use Rattle.end.specs.Law.{read_as, open_by, names_by, Named, IsDriven}
+use Rattle.end.specs.Law.{open_by, names_by, Named, IsDriven}
 use Rattle.end.specs.Outcomes.{own_header, ended}
 use Rattle.end.specs.States.{State}
 use Rattle.end.proofs.Spoken.{read_none}
@@ -18,6 +18,7 @@ use Rattle.head.specs.Meaning.{Meaning, Slot, Slots, SlotTicked, Ticked, wanted,
 use Rattle.head.specs.Orders.{parts, wants}
 use Rattle.head.specs.Settings.{about, drive}
 use Rattle.head.proofs.Tables.{position_is}
+use Rattle.rows.specs.Requests.{read_as}
 use Rattle.rules.specs.declared.reply.Problem.TheVariants.{NotExecutable}
 use Rattle.rules.specs.declared.reply.Reply.TheVariants.{Completion, Error}
 

@@ -2,13 +2,14 @@
 use Rattle.std.proofs.Common.{◌≡◌, ℕ, ◌+◌, ◌≤◌, false, eqb, List, ℤ, Some, None, Option, sym, refl, arith}
 use Rattle.end.specs.declared.socket.Sockets.{Sockets}
 use Rattle.end.specs.Book.{Seen, closed, working, cut, seen_after_replies}
-use Rattle.end.specs.Law.{read_as, open_by, SlotAgrees, InOrder, InTime}
+use Rattle.end.specs.Law.{open_by, SlotAgrees, InOrder, InTime}
 use Rattle.end.specs.Sockets.{is_open}
 use Rattle.end.specs.States.{State}
 use Rattle.end.proofs.Spoken.{Read, owns, spoken, AllDue, read_owns}
 use Rattle.head.specs.declared.order.Order.{Order}
 use Rattle.head.specs.declared.setting.Setting.{Setting}
 use Rattle.head.specs.Meaning.{Slot, Slots, idle, busy}
+use Rattle.rows.specs.Requests.{read_as}
 use Rattle.rules.specs.declared.reply.Reply.{Reply}
 
 pub data Tied : Seen → Option Order → Slot → Type 0 where

@@ -1,10 +1,12 @@
 -- What a call does to the sockets and the head.
-use Rattle.std.specs.Prelude.{◌≡◌, ℕ, ◌-◌, Some, None, Option}
+use Rattle.std.specs.Prelude.{◌≡◌, ℕ, ◌-◌, Some, None, Option, Result}
 use Rattle.end.specs.declared.socket.Sockets.{Sockets}
 use Rattle.end.specs.Sockets.{both_closed, with_socket}
 use Rattle.head.specs.declared.order.Order.{Order}
 use Rattle.head.specs.declared.outcome.Ending.{Ending}
 use Rattle.head.specs.declared.outcome.Endings.{Endings}
+use Rattle.head.specs.declared.outcome.Refusal.{Refusal}
+use Rattle.head.specs.declared.traits.Head.{Ghosts}
 use Rattle.head.specs.Meaning.{Meaning, Slots, idle, Kept, Started, Ticked, Dropped}
 
 pub data Deed : Type 0 where
@@ -24,6 +26,38 @@ pub data Deed : Type 0 where
 abbrev pub other : ℕ → ℕ
 other y = 3 - y
 
+-- The head over a deed, by its own values: the calls that it goes through, in order, from x to x'. A head keeps to itself what makes
+-- these relations hold, so that only the very calls show them.
+
+-- by what a drop and a start are to the head
+pub record DropsBoth {H : Type 0} (drop : H → ℕ → H → Type 0) (x x' : H) : Type 0 where
+  pub between : H
+  pub one : drop x 1 between
+  pub two : drop between 2 x'
+
+abbrev pub StartRelation : Type 0 → Type 1
+StartRelation H = H → ℕ → Order → Result (Unit {0}) Refusal → H → Type 0
+
+-- the head answers, be it that it turns the order down; no run comes to that
+pub record Starts {H : Type 0} (start : StartRelation H) (x : H) (y : ℕ) (o : Order) (x' : H) : Type 0 where
+  pub answer : Result (Unit {0}) Refusal
+  pub started : start x y o answer x'
+
+pub record DropsAndStarts {H : Type 0} (drop : H → ℕ → H → Type 0) (start : StartRelation H) (x : H) (y : ℕ) (o : Order) (x' : H) : Type 0 where
+  pub between : H
+  pub dropped : drop x (other y) between
+  pub starts : Starts start between y o x'
+
+abbrev pub HeadCalls : {H : Type 0} → Ghosts H → Deed → H → H → Type 0
+HeadCalls head nothing x x' = x' ≡ x
+HeadCalls head clears x x' = DropsBoth head.dropped x x'
+HeadCalls head (cancels y) x x' = head.dropped x y x'
+HeadCalls head (starts y o) x x' = Starts head.started x y o x'
+HeadCalls head (displaces y o) x x' = DropsAndStarts head.dropped head.started x y o x'
+HeadCalls head (ticks e) x x' = head.ticked x e x'
+
+-- The same by what the head means.
+
 -- settings, pan and tilt, and slots as before
 pub record Unchanged (m m' : Meaning) : Type 0 where
   pub kept : Kept m m'
@@ -37,7 +71,6 @@ pub record Cleared (m m' : Meaning) : Type 0 where
   pub kept : Kept m m'
   pub slots : m'.slots ≡ both_idle
 
--- the head is given an order for slot y and answers, be it that it turns the order down; no run comes to that
 pub record Given (m : Meaning) (y : ℕ) (o : Order) (m' : Meaning) : Type 0 where
   pub answer : ℕ
   pub started : Started m y o answer m'
@@ -48,7 +81,6 @@ pub record Displaced (m : Meaning) (y : ℕ) (o : Order) (m' : Meaning) : Type 0
   pub dropped : Dropped m (other y) between
   pub given : Given between y o m'
 
--- the head over a deed
 abbrev pub DidHead : Deed → Meaning → Meaning → Type 0
 DidHead nothing m m' = Unchanged m m'
 DidHead clears m m' = Cleared m m'

@@ -3,6 +3,7 @@ use Rattle.std.specs.Prelude.{ℕ, Bool, Ok, Err, Result}
 use Rattle.end.specs.declared.faults.Cause.{Cause}
 use Rattle.end.specs.declared.faults.Cause.TheVariants.{ShortBuffer, Framing, Packet}
 use Rattle.end.specs.declared.faults.Fault.{Fault}
+use Rattle.rows.specs.declared.faults.PacketFault.{PacketFault}
 use Rattle.rows.specs.Requests as packets
 use Rattle.fault.specs.declared.code.FaultCode.{FaultCode}
 use Rattle.wire.specs.declared.framer.FramingFault.{FramingFault}
@@ -18,6 +19,10 @@ cause_code (Packet f) = packets.packet_code f
 -- a fault of framing comes with no reply
 abbrev pub without_reply : FramingFault → Fault
 without_reply f = record { cause = Framing f; sent = 0 }
+
+-- a packet that the rows do not read is answered, by an error of four bytes
+abbrev pub with_reply : PacketFault → Fault
+with_reply f = record { cause = Packet f; sent = 4 }
 
 -- what a call with a short buffer answers
 abbrev pub refused : Fault

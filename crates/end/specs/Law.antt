@@ -1,11 +1,10 @@
 -- The law of the sockets, over runs of any length, over any head.
-use Rattle.std.specs.Prelude.{◌≡◌, ℕ, ◌<◌, ◌≤◌, Bool, true, false, ◌⊎◌, List, [], ◌∷◌, ◌++◌, length, pos, is_some, Some, None, Option, Result}
+use Rattle.std.specs.Prelude.{◌≡◌, ℕ, ◌<◌, ◌≤◌, Bool, true, false, ◌⊎◌, List, [], ◌∷◌, ◌++◌, length, pos, is_some, Some, None, Option}
 use Rattle.std.specs.List.{concat, list_all}
 use Rattle.end.specs.declared.call.Call.TheVariants.{Tick, Open}
 use Rattle.end.specs.Book.{Book, Entry, Seen, closed, working, Said, acknowledges, ends, other, said_of, seen_after_said, cut, fresh, before_replies, accepted, after_call}
-use Rattle.end.specs.declared.faults.Fault.{Fault}
 use Rattle.end.specs.Faults.{opens}
-use Rattle.end.specs.Records.{Record, book_of, call_record}
+use Rattle.end.specs.Records.{Record, book_of}
 use Rattle.end.specs.Runs.{Run, Calls}
 use Rattle.end.specs.Sockets.{is_open}
 use Rattle.end.specs.States.{State, InRange}
@@ -13,7 +12,6 @@ use Rattle.end.specs.Steps.{Made, Step}
 use Rattle.head.specs.declared.order.Order.{Order}
 use Rattle.head.specs.declared.setting.Axis.{Axis}
 use Rattle.head.specs.declared.setting.Setting.{Setting}
-use Rattle.head.specs.declared.outcome.Endings.{Endings}
 use Rattle.head.specs.Meaning.{Meaning, Slot, order_in}
 use Rattle.head.specs.Orders.{parts, names}
 use Rattle.head.specs.Settings.{position, drive}
@@ -128,12 +126,6 @@ pub record LawKept (m : Meaning) (h : List Record) (s : State) (r : Record) (s' 
 
 abbrev pub Keeps : State → Record → State → Type 0
 Keeps s r s' = (m : Meaning) (h : List Record) → Run m h s → LawKept m h s r s'
-
--- a tick, on a buffer that held `old` and then holds `new`, is a step and keeps the law, with some endings that the head told
-pub record Ticks (s : State) (old : List ℕ) (r : Result ℕ Fault) (new : List ℕ) (s' : State) : Type 0 where
-  pub endings : Endings
-  pub step : Step s (call_record Tick old r new endings) s'
-  pub law : Keeps s (call_record Tick old r new endings) s'
 
 -- calls from s to s' keep it too: behind every run that leads to s they are a run, and the law holds after each
 abbrev pub LawfulBehind : State → List Record → State → Type 0

@@ -9,5 +9,6 @@ pub mod Steps
 pub mod Runs
 pub mod Law
 pub mod Played
+pub mod Ends
 pub mod Promises
 pub mod Tried

@@ -9,14 +9,14 @@ use Rattle.end.specs.Faults.{Answer, counts, faults, cause_code}
 use Rattle.end.specs.Sockets.{is_open, socket_at, finds_room, free, powering_in}
 use Rattle.head.specs.declared.order.Order.{Order}
 use Rattle.head.specs.declared.outcome.Ending.{Ending}
-use Rattle.head.specs.declared.outcome.Ending.TheVariants.{Done, Jammed}
 use Rattle.head.specs.declared.outcome.Endings.{Endings}
 use Rattle.head.specs.Meaning.{Meaning, in_use}
+use Rattle.rows.specs.declared.command.Command as says
 use Rattle.rows.specs.declared.faults.PacketFault.{PacketFault}
 use Rattle.rows.specs.declared.request.Request.{Request}
 use Rattle.rows.specs.declared.request.Request.TheVariants.{Command, Ask}
 use Rattle.rows.specs.Answers as inquiry
-use Rattle.rows.specs.Orders.{order_of}
+use Rattle.rows.specs.Orders.{order_of, subject}
 use Rattle.rows.specs.Requests.{read_body}
 use Rattle.rules.specs.declared.reply.Problem.TheVariants.{Syntax, BufferFull, Cancelled as CancelledCommand, NoSocket, NotExecutable}
 use Rattle.rules.specs.declared.reply.Reply.{Reply}
@@ -24,7 +24,7 @@ use Rattle.rules.specs.declared.reply.Reply.TheVariants.{Acknowledgement, Comple
 use Rattle.rules.specs.declared.ring.Rule.{Rule}
 use Rattle.rules.specs.declared.ring.Rule.TheVariants.{TakenOff, AddressSet, ClearedForAll, SentOn, Cleared, Cancelled, Requested}
 use Rattle.rules.specs.Modes.{forbidden_by}
-use Rattle.rules.specs.Replies.{packet}
+use Rattle.rules.specs.Replies.{ending_reply, packet}
 use Rattle.rules.specs.Ring.{rule_of}
 use Rattle.wire.specs.Framing.{Event}
 use Rattle.wire.specs.Packets.{body_of}
@@ -54,25 +54,30 @@ own a r = packet (own_header a) r
 -- a command that gets socket y; one in the other socket that names a common setting is displaced, which is told first
 abbrev pub taken : ℕ → Sockets → ℕ → Order → Outcome
 taken a k y o =
-    if in_use (socket_at k (other y)) o then does a (displaces y o) (own a (Error (other y) CancelledCommand) ++ own a (Acknowledgement y)) else does a (starts y o) (own a (Acknowledgement y))
+    if in_use (socket_at k (other y)) o
+    then does a (displaces y o) (own a (Error (other y) CancelledCommand) ++ own a (Acknowledgement y))
+    else does a (starts y o) (own a (Acknowledgement y))
 
 -- an admitted command
-abbrev pub commanded : ℕ → Meaning → Sockets → Order → Outcome
-commanded a m k o =
+abbrev pub commanded : ℕ → Meaning → Sockets → says.Command → Outcome
+commanded a m k c =
     if not (finds_room k)
     then sends a (own a (Error 0 BufferFull))
-    else (if forbidden_by m.setting m.pantilt (powering_in k) o
+    else (if forbidden_by m.setting m.pantilt (powering_in k) (subject c) (order_of c)
     then sends a (own a (Error 0 NotExecutable))
-    else taken a k (free k) o)
+    else taken a k (free k) (order_of c))
 
 abbrev pub requested : ℕ → Meaning → Sockets → Result Request PacketFault → Outcome
-requested a m k (Ok (Command row c)) = commanded a m k (order_of c)
+requested a m k (Ok (Command row c)) = commanded a m k c
 requested a m k (Ok (Ask q)) = sends a (inquiry.answer_packet (own_header a) q m.setting m.pantilt)
 requested a m k (Err f) = fails a (Packet f) (own a (Error 0 Syntax))
 
 -- a cancel of socket y
 abbrev pub cancelled : ℕ → Sockets → ℕ → Outcome
-cancelled a k y = if is_open (socket_at k y) then does a (cancels y) (own a (Error y CancelledCommand)) else sends a (own a (Error y NoSocket))
+cancelled a k y =
+    if is_open (socket_at k y)
+    then does a (cancels y) (own a (Error y CancelledCommand))
+    else sends a (own a (Error y NoSocket))
 
 -- a whole packet p, by the first rule that it meets
 abbrev pub met : ℕ → Meaning → Sockets → List ℕ → Rule → Outcome
@@ -93,12 +98,15 @@ framed a m k (Err f) = fails a (Framing f) []
 -- what is sent of socket y's ending, behind the header
 abbrev pub ended : ℕ → ℕ → Option Ending → List ℕ
 ended header y None = []
-ended header y (Some Done) = packet header (Completion y)
-ended header y (Some Jammed) = packet header (Error y NotExecutable)
+ended header y (Some e) = packet header (ending_reply y e)
 
--- a tick at which the head tells these endings: socket 1 first
+-- what is sent of a tick's endings: socket 1 first
+abbrev pub both_ended : ℕ → Endings → List ℕ
+both_ended header e = ended header 1 e.one ++ ended header 2 e.two
+
+-- a tick at which the head tells these endings
 abbrev pub ticked : ℕ → Endings → Outcome
-ticked a e = does a (ticks e) (ended (own_header a) 1 e.one ++ ended (own_header a) 2 e.two)
+ticked a e = does a (ticks e) (both_ended (own_header a) e)
 
 abbrev pub answer_with : List ℕ → Option Cause → Answer
 answer_with bytes None = counts (length bytes)

@@ -1,25 +1,20 @@
 -- One call on an end: what it answers, what it sends, and what the end and its head are then.
-use Rattle.std.specs.Prelude.{◌≡◌, ℕ, ◌<◌, ◌≤◌, List, [], Result}
+use Rattle.std.specs.Prelude.{◌≡◌, ℕ, ◌<◌, ◌≤◌, []}
 use Rattle.end.specs.declared.call.Call.{Call}
 use Rattle.end.specs.declared.call.Call.TheVariants.{Byte, Tick, Open}
 use Rattle.end.specs.declared.faults.Cause.TheVariants.{ShortBuffer}
-use Rattle.end.specs.declared.faults.Fault.{Fault}
-use Rattle.end.specs.Deeds.{Deed, DidHead, sockets_after, endings_in, none_ended, Cleared, Unchanged}
-use Rattle.end.specs.Faults.{Answer, opens}
+use Rattle.end.specs.Deeds.{DidHead, sockets_after, endings_in, none_ended, Cleared, Unchanged}
+use Rattle.end.specs.Faults.{opens}
 use Rattle.end.specs.Outcomes.{Outcome, fails, framed, ticked, answer_of}
-use Rattle.end.specs.Records.{Record, record_of, call_record}
+use Rattle.end.specs.Records.{Record}
 use Rattle.end.specs.Sockets.{is_open, both_closed}
 use Rattle.end.specs.States.{State}
-use Rattle.head.specs.declared.outcome.Endings.{Endings}
 use Rattle.head.specs.Meaning.{Meaning}
 use Rattle.wire.specs.Framing.{Held, none, held_after, event}
 
--- a deed, with address and framing as before
-pub record Worked (d : Deed) (s s' : State) : Type 0 where
-  pub head : DidHead d s.head s'.head
-  pub sockets : s'.sockets ≡ sockets_after d s.sockets
-  pub address : s'.address ≡ s.address
-  pub held : s'.held ≡ s.held
+-- what comes of a byte
+abbrev pub heard_in : State → ℕ → Outcome
+heard_in s b = framed s.address s.head s.sockets (event s.held b)
 
 -- the outcome o came about, with framing h then: the answer, the bytes sent, what the head told, and the state are those that it says
 pub record Came (s : State) (h : Held) (o : Outcome) (r : Record) (s' : State) : Type 0 where
@@ -30,10 +25,6 @@ pub record Came (s : State) (h : Held) (o : Outcome) (r : Record) (s' : State) :
   pub sockets : s'.sockets ≡ sockets_after o.deed s.sockets
   pub address : s'.address ≡ o.address
   pub held : s'.held ≡ h
-
--- the outcome o of a whole packet came about, with nothing begun or ended between bytes
-abbrev pub CameOf : State → Outcome → Answer → List ℕ → State → Type 0
-CameOf s o a sent s' = Came s s.held o (record_of Tick 0 a sent none_ended) s'
 
 -- a call with a buffer under 16 bytes is refused with fault 1, nothing is sent, end and head are as before
 pub record WithRoom (accepted : Type 0) (s : State) (r : Record) (s' : State) : Type 0 where
@@ -51,8 +42,7 @@ pub record OpenAsked (s : State) (r : Record) (s' : State) : Type 0 where
   pub held : s'.held ≡ s.held
 
 abbrev pub StepOf : Call → State → Record → State → Type 0
-StepOf (Byte b) s r s' =
-    WithRoom (Came s (held_after s.held b) (framed s.address s.head s.sockets (event s.held b)) r s') s r s'
+StepOf (Byte b) s r s' = WithRoom (Came s (held_after s.held b) (heard_in s b) r s') s r s'
 StepOf Tick s r s' = WithRoom (Came s s.held (ticked s.address r.endings) r s') s r s'
 StepOf Open s r s' = OpenAsked s r s'
 
@@ -66,8 +56,3 @@ pub record Made (m : Meaning) (s : State) : Type 0 where
   pub address : s.address ≡ 0
   pub held : s.held ≡ none
   pub sockets : s.sockets ≡ both_closed
-
--- a step at which the head told some endings
-pub record StepTold (s : State) (c : Call) (old : List ℕ) (r : Result ℕ Fault) (new : List ℕ) (s' : State) : Type 0 where
-  pub endings : Endings
-  pub step : Step s (call_record c old r new endings) s'

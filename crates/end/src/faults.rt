@@ -1,11 +1,14 @@
 //! Why a call was refused, or what is wrong with what it was given.
 
 ghost use Rattle.std.specs.Prelude.{◌≡◌};
-ghost use Rattle.end.specs.Faults.{cause_code, count_told, without_reply};
+ghost use Rattle.end.specs.Faults.{cause_code, count_told, with_reply, without_reply};
 
 use fault::{FaultCode, Layer};
 use rows::PacketFault;
 use wire::FramingFault;
+
+// The bytes of an error: X0, 6Y, its code, and FF.
+const ERROR_REPLY: usize = 4;
 
 /// What is wrong, by the layer that finds it.
 #[derive(Clone, Copy, Debug, PartialEq, Eq)]
@@ -32,6 +35,18 @@ impl From<FramingFault> for Fault {
         Fault {
             cause: Cause::Framing(fault),
             sent: 0,
+        }
+    }
+}
+
+// Such a packet is answered: the reply's bytes are counted.
+impl From<PacketFault> for Fault {
+    ghost from_gives = { λ e r. r ≡ with_reply e };
+
+    fn from(fault: PacketFault) -> Fault {
+        Fault {
+            cause: Cause::Packet(fault),
+            sent: ERROR_REPLY,
         }
     }
 }

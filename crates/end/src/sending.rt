@@ -1,6 +1,7 @@
 //! What a call sends: at most 16 bytes, and how they come into the caller's buffer.
 
-ghost use Rattle.std.specs.Prelude.{◌≡◌, ◌+◌, ◌≤◌, ◌++◌, length, take, drop};
+ghost use Rattle.std.specs.Prelude.{◌≡◌, ◌+◌, ◌≤◌, ◌++◌, length};
+ghost use Rattle.wire.specs.Line.{over};
 
 use wire::{Bytes, send_at};
 
@@ -23,8 +24,7 @@ pub(crate) fn put(bytes: &[u8], out: &mut [u8]) -> usize
     requires few { length bytes.now ≤ 16 }
     requires room { 16 ≤ length out.old }
     ensures count { result ≡ length bytes.now }
-    ensures front { take result out.new ≡ bytes.now }
-    ensures untouched { drop result out.new ≡ drop result out.old }
+    ensures sent { out.new ≡ over bytes.now out.old }
 {
     send_at(out, 0, bytes).unwrap()
 }

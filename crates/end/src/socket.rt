@@ -1,11 +1,11 @@
 //! The two sockets, in which commands are at work.
 
 ghost use Rattle.std.specs.Prelude.{◌≡◌, Some, None};
-ghost use Rattle.end.specs.Deeds.{other as other_of};
+ghost use Rattle.end.specs.Deeds.{other as other_of, settled, sockets_after, ticks};
 ghost use Rattle.end.specs.Sockets.{is_open, socket_number as number_of, socket_numbered, socket_at, with_socket, finds_room, free as free_of, powering_in};
 ghost use Rattle.head.specs.Meaning.{in_use, lent};
 
-use head::Order;
+use head::{Ending, Endings, Order};
 use rules::powers_on;
 
 /// Sockets 1 and 2. Each is closed, `None`, or open with the order that its command was read as.
@@ -68,6 +68,15 @@ impl Which {
     }
 }
 
+// Closes a socket whose order ended.
+fn settle(socket: &mut Option<Order>, ending: Option<Ending>)
+    ensures { socket.new ≡ settled ending socket.old }
+{
+    if ending.is_some() {
+        *socket = None;
+    }
+}
+
 impl Sockets {
     /// Both closed.
     pub const CLOSED: Sockets = Sockets {
@@ -102,6 +111,14 @@ impl Sockets {
             Which::One => self.one = None,
             Which::Two => self.two = None,
         }
+    }
+
+    /// Closes each socket whose order ended.
+    pub(crate) fn settle(&mut self, endings: Endings)
+        ensures { self.new ≡ sockets_after (ticks endings) self.old }
+    {
+        settle(&mut self.one, endings.one);
+        settle(&mut self.two, endings.two);
     }
 
     /// Whether the order in a socket names a setting of this one.

@@ -42,6 +42,6 @@ returns g c =
     let s = state c.loop-call.end in
     record {
       played = subst (λ (cs : List Call). Played m cs (length c.args.log.now) (take c.loop-call.count c.loop-call.log) s)
-          (take_all c.loop-call.call-index c.args.calls.now c.loop-call-test.false) (c.loop-call.invariant.2 m c.make-end.ensures);
+          (take_all c.loop-call.call-index c.args.calls.now c.loop-call-test.false) (c.loop-call.invariant.2 m c.make-end.ensures.made);
       untouched = c.loop-call.invariant.3;
     }
