@@ -3,3 +3,4 @@ pub mod Exact
 pub mod Rigs
 pub mod Heads
 pub mod Punctual
+pub mod Any

@@ -3,6 +3,7 @@
 
 #![tactic(auto)]
 
+mod any;
 mod block;
 mod dome;
 mod gear;
@@ -15,5 +16,6 @@ mod slots;
 mod tick;
 mod ticks;
 
+pub use any::{AnyHead, HeadKind, NoSuchHead, OneOf};
 pub use block::Block;
 pub use dome::Dome;
