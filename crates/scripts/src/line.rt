@@ -2,13 +2,7 @@
 
 ghost use Rattle.std.specs.Prelude.{◌≤◌};
 
-/// A head to make an end over.
-#[derive(Clone, Copy, Debug, PartialEq, Eq)]
-pub enum Kind {
-    Block,
-    Dome,
-    StalledDome,
-}
+use heads::HeadKind;
 
 /// The length of the buffer that a call gets, at most 64.
 #[derive(Clone, Copy, Debug, PartialEq, Eq)]
@@ -25,7 +19,8 @@ pub const USUAL: Room = Room { len: 16 };
 pub enum Line {
     /// Nothing, or a comment alone: it makes no call and writes nothing.
     Blank,
-    Head(Kind),
+    /// An end over a head of this kind.
+    Head(HeadKind),
     Byte(u8, Room),
     Send(Vec<u8>),
     /// So many ticks.

@@ -1,8 +1,10 @@
 //! Text to lines of a script. A line that is not understood is none.
 
-ghost use Rattle.std.specs.Prelude.{◌≤◌, IfSome};
+ghost use Rattle.std.specs.Prelude.{◌≡◌, ◌≤◌, IfSome, map};
+ghost use Rattle.scripts.specs.Scripts.{head_in_script, two_words};
 
-use crate::line::{Kind, Line, Room, USUAL};
+use crate::line::{Line, Room, USUAL};
+use heads::HeadKind;
 use hexadecimal::byte;
 use std::alloc::{AllocError, Global};
 use std::str::from_utf8;
@@ -36,13 +38,32 @@ fn times(word: &str) -> Option<u32>
     at_most(10000, word).filter(|times| *times > 0)
 }
 
+// Both words of a stalled dome.
+fn stalled(head: &str, mark: &str) -> Option<HeadKind>
+    ensures { result ≡ two_words head.now mark.now }
+{
+    if head == "dome" && mark == "stalled" {
+        return Some(HeadKind::StalledDome);
+    }
+    None
+}
+
+// The head that the words behind `head` name.
+fn head(words: &[&str]) -> Option<HeadKind>
+    ensures { result ≡ head_in_script (map (λ w. w.now) words.now) }
+{
+    match words {
+        [head] if *head != "stalled" => head.parse().ok(),
+        [head, mark] => stalled(head, mark),
+        _ => None,
+    }
+}
+
 // Any line but one of bytes to send.
 fn call(words: &[&str]) -> Option<Line> {
     match words {
         [] => Some(Line::Blank),
-        ["head", "block"] => Some(Line::Head(Kind::Block)),
-        ["head", "dome"] => Some(Line::Head(Kind::Dome)),
-        ["head", "dome", "stalled"] => Some(Line::Head(Kind::StalledDome)),
+        ["head", words @ ..] => Some(Line::Head(head(words)?)),
         ["byte", value] => Some(Line::Byte(byte(value)?, USUAL)),
         ["byte", value, len] => Some(Line::Byte(byte(value)?, room(len)?)),
         ["tick"] => Some(Line::Tick(1, USUAL)),

@@ -1,0 +1,34 @@
+//! What stands on the bench: nothing until a head line makes an end, then that end to the last
+//! line.
+
+use crate::line::Line;
+use crate::play::{not_understood, play};
+use end::End;
+use heads::AnyHead;
+use std::io;
+
+/// An end over one of our heads, once there is one.
+pub type Stand = Option<End<AnyHead>>;
+
+// A line with nothing on the bench.
+fn begin(rt: &impl Print, line: Line) -> io::Result<Stand> {
+    match line {
+        Line::Blank => Ok(None),
+        Line::Head(kind) => {
+            println!(rt; "made")?;
+            Ok(Some(End::make(AnyHead::new(kind))))
+        }
+        _ => {
+            not_understood(rt)?;
+            Ok(None)
+        }
+    }
+}
+
+/// What stands there after a line.
+pub fn go_on(stand: Stand, rt: &impl Print, line: Line) -> io::Result<Stand> {
+    match stand {
+        None => begin(rt, line),
+        Some(end) => Ok(Some(play(rt, end, line)?)),
+    }
+}
