@@ -3,13 +3,9 @@ use Rattle.std.proofs.Common.{◌≡◌, ℕ, false, ◌&&◌, ℤ, is_some, Som
 use Rattle.std.proofs.lemmas.Bool.{and_right}
 use Rattle.std.proofs.Math.Bool.{and_comm}
 use Rattle.head.specs.declared.order.Order.{Order}
-use Rattle.head.specs.declared.setting.Setting.{Setting}
 use Rattle.head.specs.Orders.{parts, wants}
-use Rattle.head.specs.Meaning.{Slot, idle, busy, wanted, order_in, in_use}
+use Rattle.head.specs.Meaning.{Slot, idle, busy, wanted, Apart, order_in, in_use}
 use Rattle.head.proofs.Wants.{apart}
-
-abbrev pub Apart : Slot → Slot → Type 0
-Apart a b = (s : Setting) → (is_some (wanted a s) && is_some (wanted b s)) ≡ false
 
 pub apart_sym : (a b : Slot) → Apart a b → Apart b a
 apart_sym a b h s = and_comm (is_some (wanted b s)) (is_some (wanted a s)) ∙ h s

@@ -6,3 +6,4 @@ pub mod Apart
 pub mod Relax
 pub mod Starts
 pub mod Made
+pub mod Held

@@ -1,9 +1,9 @@
 -- What is known of an order that no reason turns down.
-use Rattle.std.proofs.Common.{◌≡◌, ℕ, ◌≤◌, Bool, true, false, cond, not, ◌&&◌, ◌||◌, eqb, ◌⊎◌, is_some, Option, refl, inl, inr, ⊎_elim, arith}
+use Rattle.std.proofs.Common.{◌≡◌, ℕ, Bool, true, false, cond, not, ◌&&◌, ◌||◌, eqb, ◌⊎◌, is_some, Option, inl, inr, ⊎_elim, arith}
 use Rattle.std.proofs.lemmas.Bool.{not-false, or_cases, eqb-true}
 use Rattle.head.specs.declared.order.Order.{Order}
 use Rattle.head.specs.Orders.{parts, all_in_range, any_pan_tilt}
-use Rattle.head.specs.Meaning.{Slots, Meaning, busy, put, in_use, reason, refusal, Started}
+use Rattle.head.specs.Meaning.{in_use, reason}
 
 -- each reason fails
 passes : (b₁ b₂ b₃ b₄ b₅ : Bool) → ◌≡◌ {A = ℕ} 0 (cond b₁ 1 (cond b₂ 2 (cond b₃ 3 (cond b₄ 4 (cond b₅ 5 0)))))
@@ -15,22 +15,8 @@ module _ (pantilt : Bool) (one two : Option Order) (y : ℕ) (o : Order) (admitt
       × ((not pantilt && any_pan_tilt (parts o.targets)) ≡ false) × (in_use (cond (eqb y 1) two one) o ≡ false)
   each_passes = passes _ _ _ _ _ admitted
 
-  pub slot_one_or_two : (y ≡ 1) ⊎ (y ≡ 2)
-  slot_one_or_two =
-      ⊎_elim (λ e. inl (eqb-true y 1 e)) (λ e. inr (eqb-true y 2 e)) (or_cases (eqb y 1) (eqb y 2) (not-false (eqb y 1 || eqb y 2) each_passes.0))
-
   pub targets_in_range : all_in_range (parts o.targets) ≡ true
   targets_in_range = not-false (all_in_range (parts o.targets)) each_passes.2
 
   pub not_in_use : in_use (cond (eqb y 1) two one) o ≡ false
   not_in_use = each_passes.4
-
--- a head that holds an admitted order has started it
-pub takes : (m : Meaning) (y : ℕ) (o : Order) (n : ℕ) (s : Slots) → 0 ≡ refusal m y o → 1 ≤ n → n ≤ 1000 → s ≡ put m.slots y (busy o n)
-    → Started m y o 0 (record { setting = m.setting; pantilt = m.pantilt; slots = s })
-takes m y o n s admitted some few held = record {
-  first_reason = admitted;
-  kept = record { setting = λ k. refl; pantilt = refl };
-  refused = λ h. absurd (omega arith);
-  taken = λ _. record { ticks = n; some = some; few = few; held = held };
-}

@@ -1,5 +1,5 @@
 -- What holds of each number below a bound, and so of every setting, by one computed test.
-use Rattle.std.proofs.Common.{◌≡◌, ℕ, zero, suc, ◌+◌, ◌<◌, Bool, true, cond, ◌&&◌, eqb, get_or, ℤ, Some, None, Option, sym, refl, ap, ◌∙◌, subst, arith}
+use Rattle.std.proofs.Common.{◌≡◌, ℕ, zero, suc, ◌+◌, ◌<◌, Bool, true, cond, ◌&&◌, eqb, length, get_or, ℤ, Some, None, Option, sym, refl, ap, ◌∙◌, subst, arith}
 use Rattle.std.proofs.lemmas.Bool.{eqb-true, eqb-false}
 use Rattle.std.proofs.lemmas.Option.{get_or_from_slice_get, slice_get_within}
 use Rattle.std.proofs.lemmas.Bool.Decides.{Decides-below_and}
@@ -23,31 +23,25 @@ numbered_is s = grind arith
 pub in_place : (s : Setting) → get_or all (number s) Power ≡ s
 in_place s = get_or_from_slice_get all (number s) s Power (numbered_is s)
 
-pub below : (s : Setting) → number s < 22
+pub below : (s : Setting) → number s < length all
 below s = slice_get_within all (number s) s (numbered_is s)
 
 -- the test of the table: what it passes holds of every setting
 abbrev pub every : (Setting → Bool) → Bool
-every p = all_below (λ k. p (get_or all k Power)) 22
+every p = all_below (λ k. p (get_or all k Power)) (length all)
 
 pub each : (p : Setting → Bool) → every p ≡ true → (s : Setting) → p s ≡ true
 each p h s =
     subst (λ (z : Setting). p z ≡ true) (in_place s)
-    (each_below (λ k. p (get_or all k Power)) 22 h (number s) (below s))
+    (each_below (λ k. p (get_or all k Power)) (length all) h (number s) (below s))
 
 -- settings with one number are one
 pub same_is : (s z : Setting) → same s z ≡ true → s ≡ z
 same_is s z h = sym (in_place s) ∙ ap (λ (n : ℕ). get_or all n Power) (eqb-true (number s) (number z) h) ∙ in_place z
 
-pub number_at : (k : ℕ) → k < 22 → number (get_or all k Power) ≡ k
+pub number_at : (k : ℕ) → k < length all → number (get_or all k Power) ≡ k
 number_at k h =
-    eqb-true (number (get_or all k Power)) k (each_below (λ n. eqb (number (get_or all n Power)) n) 22 refl k h)
-
--- one setting more that a loop over the table has given its value
-pub passed_more : (k : ℕ) (x : Setting) (taken : Bool) (w : ℤ) (old new g : Setting → ℤ) → number x ≡ k → taken ≡ true → w ≡ g x
-    → ((s : Setting) → new s ≡ cond (taken && same s x) w (old s)) → ((s : Setting) → number s < k → old s ≡ g s)
-    → (s : Setting) → number s < k + 1 → new s ≡ g s
-passed_more k x taken w old new g e t v is past s h = grind (arith, same_is s x, is s, past s, eqb-false (number s) (number x))
+    eqb-true (number (get_or all k Power)) k (each_below (λ n. eqb (number (get_or all n Power)) n) (length all) refl k h)
 
 -- what is the position of an axis, by the table
 abbrev tied : Setting → Option Axis → Bool

@@ -4,3 +4,5 @@ pub mod Orders
 pub mod Meaning
 pub mod Values
 pub mod Made
+pub mod Work
+pub mod Works

@@ -1,6 +1,7 @@
 -- What a head means: its settings, whether it has pan and tilt, and its two slots;
 -- and what looking, starting, ticking and dropping do to that.
-use Rattle.std.specs.Prelude.{◌≡◌, ℕ, ◌-◌, ◌<◌, ◌≤◌, Bool, false, if◌then◌else◌, not, ◌&&◌, ◌||◌, ◌⊎◌, ℤ, pos, ◌≤ℤ◌, ◌<ℤ◌, is_some, Some, None, Ok, Err, Option, Result, ◌==◌, nat_lt, [], ◌∷◌}
+use Rattle.std.specs.Prelude.{◌≡◌, ℕ, ◌-◌, ◌<◌, ◌≤◌, Bool, false, if◌then◌else◌, not, ◌&&◌, ◌||◌, ◌⊎◌, ℤ, pos, ◌≤ℤ◌}
+use Rattle.std.specs.Prelude.{◌<ℤ◌, is_some, Some, None, Ok, Err, Option, Result, ◌==◌, nat_lt, [], ◌∷◌}
 use Rattle.std.specs.Borrow.{Bor}
 use Rattle.std.specs.Option.{option_map}
 use Rattle.head.specs.declared.order.Order.{Order}
@@ -73,7 +74,8 @@ abbrev pub in_use : Option Order → Order → Bool
 in_use None o = false
 in_use (Some p) o = shares (parts o.targets) (parts p.targets)
 
--- the number of the first reason to turn order o down for slot y, by pan and tilt and the orders in the slots; 0 for none
+-- the number of the first reason to turn order o down for slot y, by pan and tilt and the orders in the slots;
+-- 0 for none
 abbrev pub reason : Bool → Option Order → Option Order → ℕ → Order → ℕ
 reason pantilt one two y o =
     first_case (
@@ -136,7 +138,8 @@ SlotTicked (busy o n) (Some e) b = (n ≡ 1) × (b ≡ idle)
 abbrev pub Between : ℤ → ℤ → ℤ → Type 0
 Between v w t = ((v ≤ℤ w) × (w ≤ℤ t)) ⊎ ((t ≤ℤ w) × (w ≤ℤ v))
 
--- a named setting from v to w, where its order wants t and fared as e: a position lies between, another stands, and done is the target
+-- a named setting from v to w, where its order wants t and fared as e: a position lies between, another stands, and
+-- done is the target
 abbrev pub Pulled : Option Axis → Option Ending → ℤ → ℤ → ℤ → Type 0
 Pulled (Some a) None v t w = Between v w t
 Pulled (Some a) (Some Done) v t w = w ≡ t
@@ -156,6 +159,10 @@ abbrev pub wanted : Slot → Setting → Option ℤ
 wanted idle s = None
 wanted (busy o n) s = wants (parts o.targets) s
 
+-- no setting is named by the orders of both slots
+abbrev pub Apart : Slot → Slot → Type 0
+Apart a b = (s : Setting) → (is_some (wanted a s) && is_some (wanted b s)) ≡ false
+
 -- no order names the setting
 pub record Unnamed (m : Meaning) (s : Setting) : Type 0 where
   pub by_one : wanted m.slots.one s ≡ None
@@ -166,9 +173,12 @@ pub record TickedBut (free : Setting → Type 0) (m : Meaning) (e : Endings) (m'
   pub pantilt : m'.pantilt ≡ m.pantilt
   pub one : SlotTicked m.slots.one e.one m'.slots.one
   pub two : SlotTicked m.slots.two e.two m'.slots.two
-  pub by_one : (s : Setting) (t : ℤ) → wanted m.slots.one s ≡ Some t → Pulled (about s).axis e.one (m.setting s) t (m'.setting s)
-  pub by_two : (s : Setting) (t : ℤ) → wanted m.slots.two s ≡ Some t → Pulled (about s).axis e.two (m.setting s) t (m'.setting s)
-  pub driven : (a : Axis) → (free (position a) → ⊥) → Unnamed m (position a) → Driven (m.setting (drive a)) (m.setting (position a)) (m'.setting (position a))
+  pub by_one : (s : Setting) (t : ℤ) → wanted m.slots.one s ≡ Some t
+      → Pulled (about s).axis e.one (m.setting s) t (m'.setting s)
+  pub by_two : (s : Setting) (t : ℤ) → wanted m.slots.two s ≡ Some t
+      → Pulled (about s).axis e.two (m.setting s) t (m'.setting s)
+  pub driven : (a : Axis) → (free (position a) → ⊥) → Unnamed m (position a)
+      → Driven (m.setting (drive a)) (m.setting (position a)) (m'.setting (position a))
   pub stands : (s : Setting) → (free s → ⊥) → Unnamed m s → (about s).axis ≡ None → m'.setting s ≡ m.setting s
 
 -- the settings that may move by themselves at a tick that begins as m: none
@@ -182,3 +192,19 @@ Ticked m e m' = TickedBut (free_at m) m e m'
 -- a tick that leaves no setting free, whatever other heads may do
 abbrev pub Strict : Meaning → Endings → Meaning → Type 0
 Strict m e m' = TickedBut (λ s. ⊥) m e m'
+
+-- What a head's relations between its own values come to, for a head whose traits have the members f, p and g.
+
+abbrev pub StartMeans : {S : Type 0} → (S → Setting → ℤ) → (S → Bool) → (S → Slots)
+    → (S → ℕ → Order → Result (Unit {0}) Refusal → S → Type 0) → Type 0
+StartMeans {S = S} f p g started =
+    (x : S) (y : ℕ) (o : Order) (r : Result (Unit {0}) Refusal) (x' : S) → started x y o r x'
+    → Started (view f p g x) y o (reason_given r) (view f p g x')
+
+abbrev pub TickMeans : {S : Type 0} → (S → Setting → ℤ) → (S → Bool) → (S → Slots) → (S → Endings → S → Type 0) → Type 0
+TickMeans {S = S} f p g ticked =
+    (x : S) (e : Endings) (x' : S) → ticked x e x' → Ticked (view f p g x) e (view f p g x')
+
+abbrev pub DropMeans : {S : Type 0} → (S → Setting → ℤ) → (S → Bool) → (S → Slots) → (S → ℕ → S → Type 0) → Type 0
+DropMeans {S = S} f p g dropped =
+    (x : S) (y : ℕ) (x' : S) → dropped x y x' → Dropped (view f p g x) y (view f p g x')

@@ -1,5 +1,6 @@
 -- What an order names: the value that each setting is to get, by its one to four targets.
-use Rattle.std.specs.Prelude.{Bool, true, not, ◌&&◌, ◌||◌, List, [], ◌∷◌, ℤ, pos, is_some, Option, slice_index_or, find}
+use Rattle.std.specs.Prelude.{Bool, true, not, ◌&&◌, ◌||◌, List, [], ◌∷◌, ℤ, pos}
+use Rattle.std.specs.Prelude.{is_some, Option, slice_index_or, find}
 use Rattle.std.specs.List.{list_all, list_any}
 use Rattle.std.specs.Option.{option_map}
 use Rattle.head.specs.declared.setting.Setting.{Setting}
@@ -34,7 +35,7 @@ different (t ∷ ts) = not (names ts t.setting) && different ts
 abbrev pub all_in_range : List Target → Bool
 all_in_range ts = list_all (λ t. in_range t.setting t.value) ts
 
--- one of the settings 18 to 21 is named
+-- pan, tilt or one of their drives is named
 abbrev pub any_pan_tilt : List Target → Bool
 any_pan_tilt ts = names ts Pan || names ts Tilt || names ts PanDrive || names ts TiltDrive
 

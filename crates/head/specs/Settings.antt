@@ -1,8 +1,12 @@
 -- The settings: number, range, axis and first value of each, and what being in range means.
-use Rattle.std.specs.Prelude.{ℕ, Bool, false, ◌&&◌, ◌||◌, List, [], ◌∷◌, ℤ, pos, negsuc, ◌≤ℤ◌, Some, None, Option, ◌==◌, int_le, slice_get, slice_index_or}
+use Rattle.std.specs.Prelude.{ℕ, Bool, false, ◌&&◌, ◌||◌, List, [], ◌∷◌, ℤ, pos, negsuc, ◌≤ℤ◌, Some, None, Option}
+use Rattle.std.specs.Prelude.{◌==◌, int_le, slice_get, slice_index_or}
 use Rattle.std.specs.Option.{option_map}
 use Rattle.head.specs.declared.setting.Setting.{Setting}
-use Rattle.head.specs.declared.setting.Setting.TheVariants.{Power, Zoom, ZoomDrive, FocusMode, Focus, FocusDrive, WhiteBalance, RedGain, BlueGain, ExposureMode, Shutter, Iris, Gain, Bright, Freeze, Mute, Infrared, Identity, Pan, Tilt, PanDrive, TiltDrive}
+use Rattle.head.specs.declared.setting.Setting.TheVariants.{Power, Zoom, ZoomDrive, FocusMode, Focus, FocusDrive}
+use Rattle.head.specs.declared.setting.Setting.TheVariants.{WhiteBalance, RedGain, BlueGain, ExposureMode, Shutter}
+use Rattle.head.specs.declared.setting.Setting.TheVariants.{Iris, Gain, Bright, Freeze, Mute, Infrared, Identity}
+use Rattle.head.specs.declared.setting.Setting.TheVariants.{Pan, Tilt, PanDrive, TiltDrive}
 use Rattle.head.specs.declared.setting.Axis.{Axis}
 use Rattle.head.specs.declared.setting.Axis.TheVariants as axis
 use Rattle.head.specs.declared.setting.Range.{Range}
@@ -47,12 +51,12 @@ about TiltDrive = facts 21 (Span (negsuc 19) (pos 20)) None (pos 0)
 abbrev pub number : Setting → ℕ
 number s = (about s).number
 
--- the settings by number
+-- the settings by number; how many there are is the length of this list
 abbrev pub all : List Setting
-all = Power ∷ Zoom ∷ ZoomDrive ∷ FocusMode ∷ Focus ∷ FocusDrive ∷ WhiteBalance ∷ RedGain ∷ BlueGain ∷ ExposureMode ∷ Shutter
-    ∷ Iris ∷ Gain ∷ Bright ∷ Freeze ∷ Mute ∷ Infrared ∷ Identity ∷ Pan ∷ Tilt ∷ PanDrive ∷ TiltDrive ∷ []
+all = Power ∷ Zoom ∷ ZoomDrive ∷ FocusMode ∷ Focus ∷ FocusDrive ∷ WhiteBalance ∷ RedGain ∷ BlueGain ∷ ExposureMode
+    ∷ Shutter ∷ Iris ∷ Gain ∷ Bright ∷ Freeze ∷ Mute ∷ Infrared ∷ Identity ∷ Pan ∷ Tilt ∷ PanDrive ∷ TiltDrive ∷ []
 
--- the setting that has a number; none above 21
+-- the setting that has a number; none has the length of the list or more
 abbrev pub numbered : ℕ → Option Setting
 numbered n = slice_get all n
 
@@ -84,7 +88,7 @@ pub record Small (v : ℤ) : Type 0 where
   pub low : negsuc 5119 ≤ℤ v
   pub high : v ≤ℤ pos 65535
 
--- the value of a setting in a list of 22, by number
+-- the value of a setting in a list by number
 abbrev pub value_in : List ℤ → Setting → ℤ
 value_in vs s = slice_index_or vs (number s) (pos 0)
 

@@ -7,20 +7,21 @@ ghost use Rattle.std.specs.Prelude.{◌≡◌, ℕ, Bool, true, ℤ, Result};
 ghost use Rattle.head.specs.declared.order.Order.{Order};
 ghost use Rattle.head.specs.declared.outcome.Endings.{Endings};
 ghost use Rattle.head.specs.declared.outcome.Refusal.{Refusal};
-ghost use Rattle.head.specs.declared.setting.Setting.{Setting};
+ghost use Rattle.head.specs.declared.setting.Setting.{Setting as S};
 ghost use Rattle.head.specs.Settings.{in_range, looked};
-ghost use Rattle.head.specs.Meaning.{Slots, at, Timed, view, reason_given, left_of, Started, Ticked, Dropped};
+ghost use Rattle.head.specs.Meaning.{Slots, at, Timed, left_of, StartMeans, TickMeans, DropMeans};
 
 use crate::order::Order;
 use crate::outcome::{Endings, Refusal};
+use crate::setting::Setting;
 
-/// What can be looked at: a value in range for each of the 22 settings, and whether there is pan and tilt.
+/// What can be looked at: a value in range for each setting, and whether there is pan and tilt.
 pub trait Look {
-    ghost setting: { Self → Setting → ℤ };
+    ghost setting: { Self → S → ℤ };
 
     ghost pantilt: { Self → Bool };
 
-    /// The value of the setting with this number; a number above 21 has none.
+    /// The value of the setting with this number; a number that no setting has, none.
     fn look(&self, number: u8) -> Option<i32>
         ensures { result ≡ looked (setting self.now) number };
 
@@ -28,7 +29,14 @@ pub trait Look {
     fn has_pan_tilt(&self) -> bool
         ensures { result ≡ pantilt self.now };
 
-    ghost ranged: { (x : Self) (s : Setting) → in_range s (setting x s) ≡ true };
+    ghost ranged: { (x : Self) (s : S) → in_range s (setting x s) ≡ true };
+}
+
+/// The value of the setting; every setting has one.
+pub fn value<L: Look>(from: &L, setting: Setting) -> i32
+    ensures { result ≡ L.Look.setting from.now setting }
+{
+    from.look(setting.number()).unwrap()
 }
 
 /// A camera head: what can be looked at, and has two slots, 1 and 2, for orders at work.
@@ -66,11 +74,11 @@ pub trait Head: Look {
 
     ghost timed: { (x : Self) (y : ℕ) → Timed (at (slots x) y) };
 
-    // What the calls mean. Each law writes its view out: a member for it could be given another meaning, and a
-    // definition over the record of `Look` would be an import cycle.
-    ghost start_means: { (x : Self) (y : ℕ) (o : Order) (r : Result (Unit {0}) Refusal) (x' : Self) → started x y o r x' → Started (view Self.Look.setting Self.Look.pantilt slots x) y o (reason_given r) (view Self.Look.setting Self.Look.pantilt slots x') };
+    // What the calls mean. Each law lends its word the members of `Look` and `slots`: a member for the view could be
+    // given another meaning, and a definition over the record of `Look` would be an import cycle.
+    ghost start_means: { StartMeans Self.Look.setting Self.Look.pantilt slots started };
 
-    ghost tick_means: { (x : Self) (e : Endings) (x' : Self) → ticked x e x' → Ticked (view Self.Look.setting Self.Look.pantilt slots x) e (view Self.Look.setting Self.Look.pantilt slots x') };
+    ghost tick_means: { TickMeans Self.Look.setting Self.Look.pantilt slots ticked };
 
-    ghost drop_means: { (x : Self) (y : ℕ) (x' : Self) → dropped x y x' → Dropped (view Self.Look.setting Self.Look.pantilt slots x) y (view Self.Look.setting Self.Look.pantilt slots x') };
+    ghost drop_means: { DropMeans Self.Look.setting Self.Look.pantilt slots dropped };
 }

@@ -1,13 +1,11 @@
 -- What holds of each axis, of the four together, and of their list.
-use Rattle.std.proofs.Common.{◌≡◌, Bool, true, false, ◌&&◌, List, [], ◌∷◌}
+use Rattle.std.proofs.Common.{◌≡◌, Bool, true, false, ◌&&◌}
 use Rattle.std.proofs.lemmas.Bool.{and_parts, and_from}
 use Rattle.std.proofs.Math.Bool.{and_assoc}
 use Rattle.std.specs.List.{list_all}
 use Rattle.head.specs.declared.setting.Axis.{Axis}
 use Rattle.head.specs.declared.setting.Axis.TheVariants.{Zoom, Focus, Pan, Tilt}
-
-abbrev pub axes : List Axis
-axes = Zoom ∷ Focus ∷ Pan ∷ Tilt ∷ []
+use Rattle.head.specs.Settings.{axes}
 
 grouped : (z f p t : Bool) → (z && (f && (p && (t && true)))) ≡ (z && f && p && t)
 grouped z f p true = simp and_assoc

@@ -12,16 +12,17 @@ use Rattle.head.specs.declared.setting.Axis.TheVariants.{Zoom, Focus, Pan, Tilt}
 use Rattle.head.specs.declared.setting.Setting.{Setting}
 use Rattle.head.specs.declared.setting.Setting.TheVariants as setting
 use Rattle.head.specs.declared.target.Target.{Target}
-use Rattle.head.specs.Meaning.{Slot, idle, busy, Slots, wanted}
+use Rattle.head.specs.Meaning.{Slot, idle, busy, Slots, wanted, Apart}
 use Rattle.head.specs.Orders.{parts, wants, all_in_range}
 use Rattle.head.specs.Settings.{about, same, position, in_range}
-use Rattle.head.proofs.Apart.{Apart}
 use Rattle.head.proofs.Tables.{same_is}
-use Rattle.heads.specs.declared.job.Job.{Job}
+use Rattle.head.specs.declared.work.Work.{Work}
 use Rattle.heads.specs.declared.motion.Motion.{Motion}
 use Rattle.heads.specs.declared.rig.Rig.{Rig}
-use Rattle.heads.specs.Exact.{slot_of, is_done, pulled, unnamed, or_value, value_after}
-use Rattle.heads.specs.Rigs.{slots_of, target_given, closed, or, taken_by_orders, followed}
+use Rattle.head.specs.Work.{slot_of}
+use Rattle.heads.specs.Exact.{is_done, pulled, unnamed, or_value, value_after}
+use Rattle.head.specs.Works.{slots_of}
+use Rattle.heads.specs.Rigs.{target_given, closed, or, taken_by_orders, followed, MovesOnly}
 
 same_sym : (s z : Setting) → same s z ≡ same z s
 same_sym s z = grind (arith, same_is s z, same_is z s)
@@ -109,21 +110,21 @@ none_wanted (t ∷ ts) s a h i =
     ]
 
 -- whether a slot's order names a position
-abbrev pub moving : Option Job → Bool
+abbrev pub moving : Option Work → Bool
 moving j = option_map_or (λ j. list_any (λ t. is_some (about t.setting).axis) (parts j.order.targets)) j false
 
-none_pulled : (m : Motion) (j : Option Job) (e : Option Ending) (s : Setting) (a : Axis) (v : ℤ) → moving j ≡ false → (about s).axis ≡ Some a → pulled m (slot_of j) e s v ≡ None
+none_pulled : (m : Motion) (j : Option Work) (e : Option Ending) (s : Setting) (a : Axis) (v : ℤ) → moving j ≡ false → (about s).axis ≡ Some a → pulled m (slot_of j) e s v ≡ None
 none_pulled m None e s a v h i = refl
 none_pulled m (Some j) e s a v h i = simp (none_wanted (parts j.order.targets) s a h i)
 
 -- where no order names a position, each goes as its drive has it
-pub drift_only : (r : Rig) (e : Endings) (f : Setting → ℤ) (s : Setting) → moving r.one ≡ false → moving r.two ≡ false
-    → unnamed r.motion (about s).axis f s ≡ cond (is_some (about s).axis) (value_after r.motion (slots_of r) e f s) (f s)
+pub drift_only : (r : Rig) (e : Endings) (f : Setting → ℤ) (s : Setting) → moving r.works.one ≡ false → moving r.works.two ≡ false
+    → unnamed r.motion (about s).axis f s ≡ cond (is_some (about s).axis) (value_after r.motion (slots_of r.works) e f s) (f s)
 drift_only r e f s h k = by (about s).axis refl
   where
-    by : (x : Option Axis) → (about s).axis ≡ x → unnamed r.motion (about s).axis f s ≡ cond (is_some (about s).axis) (value_after r.motion (slots_of r) e f s) (f s)
+    by : (x : Option Axis) → (about s).axis ≡ x → unnamed r.motion (about s).axis f s ≡ cond (is_some (about s).axis) (value_after r.motion (slots_of r.works) e f s) (f s)
     by None i = simp i
-    by (Some a) i = simp (none_pulled r.motion r.one e.one s a (f s) h i, none_pulled r.motion r.two e.two s a (f s) k i, i) refl
+    by (Some a) i = simp (none_pulled r.motion r.works.one e.one s a (f s) h i, none_pulled r.motion r.works.two e.two s a (f s) k i, i) refl
 
 -- the last target's setting gets it first, unless it is a position
 given_push : (ts : List Target) (t : Target) (s : Setting) (v : ℤ) →
@@ -170,28 +171,11 @@ one_by_one m b e f = followed m b e Tilt (followed m b e Pan (followed m b e Foc
 
 -- an axis reads nothing that those before it wrote
 apart_axes : (m : Motion) (b : Slots) (e : Endings) (f : Setting → ℤ) (s : Setting) → one_by_one m b e f s ≡ positions f (value_after m b e f) s
-apart_axes m b e f setting.Power = refl
 apart_axes m b e f setting.Zoom = refl
-apart_axes m b e f setting.ZoomDrive = refl
-apart_axes m b e f setting.FocusMode = refl
 apart_axes m b e f setting.Focus = refl
-apart_axes m b e f setting.FocusDrive = refl
-apart_axes m b e f setting.WhiteBalance = refl
-apart_axes m b e f setting.RedGain = refl
-apart_axes m b e f setting.BlueGain = refl
-apart_axes m b e f setting.ExposureMode = refl
-apart_axes m b e f setting.Shutter = refl
-apart_axes m b e f setting.Iris = refl
-apart_axes m b e f setting.Gain = refl
-apart_axes m b e f setting.Bright = refl
-apart_axes m b e f setting.Freeze = refl
-apart_axes m b e f setting.Mute = refl
-apart_axes m b e f setting.Infrared = refl
-apart_axes m b e f setting.Identity = refl
 apart_axes m b e f setting.Pan = refl
 apart_axes m b e f setting.Tilt = refl
-apart_axes m b e f setting.PanDrive = refl
-apart_axes m b e f setting.TiltDrive = refl
+apart_axes m b e f s = refl
 
 followed_same : (m : Motion) (b : Slots) (e : Endings) (a : Axis) (f g : Setting → ℤ) → ((s : Setting) → f s ≡ g s) → (s : Setting) → followed m b e a f s ≡ followed m b e a g s
 followed_same m b e a f g h s =
@@ -207,6 +191,11 @@ follows m b e f z o p t hz ho hp ht s =
     λ s. hp s ∙ followed_same m b e Pan o (followed m b e Focus (followed m b e Zoom f)) io s in
     ht s ∙ followed_same m b e Tilt p (followed m b e Pan (followed m b e Focus (followed m b e Zoom f))) ip s ∙ apart_axes m b e f s ∙ moves_all f (value_after m b e f) s
 
-pub same_following : (r r' : Rig) (e : Endings) (a : Axis) (f : Setting → ℤ) (v : ℤ) (s : Setting) → r'.motion ≡ r.motion → r'.one ≡ r.one → r'.two ≡ r.two
-    → v ≡ followed r'.motion (slots_of r') e a f s → v ≡ followed r.motion (slots_of r) e a f s
-same_following r r' e a f v s m o t h = h ∙ simp (m, o, t) refl
+-- an axis of a rig that has moved nothing but settings before
+pub same_following : (r r' : Rig) (e : Endings) (a : Axis) (g h : Setting → ℤ) (r'' : Rig) → MovesOnly r g r'
+    → MovesOnly r' (followed r'.motion (slots_of r'.works) e a h) r'' → MovesOnly r (followed r.motion (slots_of r.works) e a h) r''
+same_following r r' e a g h r'' m n = record {
+  values = λ s. n.values s ∙ ap (λ (k : Motion). followed k (slots_of r'.works) e a h s) m.motion ∙ ap (λ (b : Slots). followed r.motion b e a h s) m.slots;
+  motion = n.motion ∙ m.motion;
+  slots = n.slots ∙ m.slots;
+}

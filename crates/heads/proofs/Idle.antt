@@ -4,15 +4,16 @@ use Rattle.std.proofs.lemmas.Bool.{cases_Bool}
 use Rattle.head.specs.declared.setting.Axis.{Axis}
 use Rattle.head.specs.declared.setting.Axis.TheVariants.{Zoom, Focus, Pan, Tilt}
 use Rattle.head.specs.declared.setting.Setting.{Setting}
-use Rattle.head.specs.Meaning.{Slot, idle, rest}
+use Rattle.head.specs.Meaning.{Slot, Slots, idle, rest}
 use Rattle.head.specs.Settings.{about, same, position, drive, in_range}
 use Rattle.head.specs.Values.{value_of}
 use Rattle.head.proofs.Tables.{same_is}
-use Rattle.heads.specs.declared.job.Job.{Job}
+use Rattle.head.specs.declared.work.Work.{Work}
 use Rattle.heads.specs.declared.motion.Motion.{Motion}
 use Rattle.heads.specs.declared.rig.Rig.{Rig}
-use Rattle.heads.specs.Exact.{slot_of, ending_told, unnamed, Ran}
-use Rattle.heads.specs.Rigs.{rig_meaning, drifted}
+use Rattle.head.specs.Work.{slot_of}
+use Rattle.heads.specs.Exact.{ending_told, unnamed, Ran}
+use Rattle.heads.specs.Rigs.{rig_meaning, drifted, MovesOnly}
 use Rattle.heads.proofs.Lawful.{driven_lawful}
 
 -- with a drive of 0 nothing moves
@@ -41,21 +42,30 @@ drifts m f z o p t hz ho hp ht s =
     let ip : (s : Setting) → p s ≡ drifted m Pan (drifted m Focus (drifted m Zoom f)) s = λ s. hp s ∙ drifted_same m Pan o (drifted m Focus (drifted m Zoom f)) io s in
     ht s ∙ drifted_same m Tilt p (drifted m Pan (drifted m Focus (drifted m Zoom f))) ip s ∙ by_axis m f s
 
-idle_slot : (j : Option Job) → is_some j ≡ false → slot_of j ≡ idle
+-- an axis of a rig that has moved nothing but settings before
+pub same_drifting : (r r' : Rig) (a : Axis) (g h : Setting → ℤ) (r'' : Rig) → MovesOnly r g r' → MovesOnly r' (drifted r'.motion a h) r''
+    → MovesOnly r (drifted r.motion a h) r''
+same_drifting r r' a g h r'' m n = record {
+  values = λ s. n.values s ∙ simp m.motion refl;
+  motion = n.motion ∙ m.motion;
+  slots = n.slots ∙ m.slots;
+}
+
+idle_slot : (j : Option Work) → is_some j ≡ false → slot_of j ≡ idle
 idle_slot None h = refl
 idle_slot (Some j) h = cc
 
-pub idle_ran : (r r' : Rig) (p : Bool) → is_some r.one ≡ false → is_some r.two ≡ false → r'.one ≡ r.one → r'.two ≡ r.two
-    → ((s : Setting) → value_of r'.settings s ≡ unnamed r.motion (about s).axis (value_of r.settings) s)
+pub idle_ran : (r r' : Rig) (p : Bool) → is_some r.works.one ≡ false → is_some r.works.two ≡ false
+    → MovesOnly r (λ s. unnamed r.motion (about s).axis (value_of r.settings) s) r'
     → Ran r.motion (rig_meaning p r) (record { one = None; two = None }) (rig_meaning p r')
-idle_ran r r' p h k a b is =
-    let one = idle_slot r.one h in
-    let two = idle_slot r.two k in
+idle_ran r r' p h k moved =
+    let one = idle_slot r.works.one h in
+    let two = idle_slot r.works.two k in
     record {
       pantilt = refl;
-      one = ap slot_of a ∙ one ∙ sym (ap rest one);
-      two = ap slot_of b ∙ two ∙ sym (ap rest two);
+      one = ap (λ (b : Slots). b.one) moved.slots ∙ one ∙ sym (ap rest one);
+      two = ap (λ (b : Slots). b.two) moved.slots ∙ two ∙ sym (ap rest two);
       told_one = sym (ap (λ (x : Slot). ending_told x (value_of r'.settings)) one);
       told_two = sym (ap (λ (x : Slot). ending_told x (value_of r'.settings)) two);
-      setting = λ s. is s ∙ sym (simp (one, two) refl);
+      setting = λ s. moved.values s ∙ sym (simp (one, two) refl);
     }

@@ -13,8 +13,8 @@ use Rattle.head.specs.declared.setting.Axis.TheVariants.{Zoom, Focus, Pan, Tilt}
 use Rattle.head.specs.declared.setting.Setting.{Setting}
 use Rattle.head.specs.Settings.{about, in_range, position, drive}
 use Rattle.head.specs.Orders.{parts, wants}
-use Rattle.head.specs.Meaning.{Slot, idle, busy, Timed, rest, SlotTicked, Pulled, Driven, Meaning, wanted, Strict}
-use Rattle.head.proofs.Apart.{Apart, other_none}
+use Rattle.head.specs.Meaning.{Slot, idle, busy, Timed, rest, SlotTicked, Pulled, Driven, Meaning, wanted, Apart, Strict}
+use Rattle.head.proofs.Apart.{other_none}
 use Rattle.head.proofs.Options.{no_some}
 use Rattle.head.proofs.Tables.{position_is, axis_is}
 use Rattle.heads.specs.declared.motion.Motion.{Motion}

@@ -16,11 +16,12 @@ use Rattle.head.specs.Meaning.{Between}
 use Rattle.head.proofs.Bounds.{between_in_range}
 use Rattle.head.proofs.Tables.{position_is}
 use Rattle.head.proofs.Wants.{wants_in_range}
-use Rattle.heads.specs.declared.job.Job.{Job}
+use Rattle.head.specs.declared.work.Work.{Work}
 use Rattle.heads.specs.declared.motion.Motion.{Motion}
 use Rattle.heads.specs.declared.motion.Motion.TheVariants.{AtOnce, Stepwise, Stalled}
 use Rattle.heads.specs.Motion.{unit, step, toward, moved, held_to_range, driven}
-use Rattle.heads.specs.Exact.{slot_of, is_done, pulled_to, pulled, unnamed, or_value, value_after}
+use Rattle.head.specs.Work.{slot_of}
+use Rattle.heads.specs.Exact.{is_done, pulled_to, pulled, unnamed, or_value, value_after}
 
 -- an order moves a position to somewhere between where it was and its target
 pub toward_between : (n : ℕ) (v t : ℤ) → Between v (toward n v t) t
@@ -76,7 +77,7 @@ unnamed_in_range m f s None i h = h
 unnamed_in_range m f s (Some a) i h = at_position s a (driven m a (f s) (f (drive a))) i (driven_in_range m a (f s) (f (drive a)) (of_position s a (f s) i h))
 
 -- what is pulled or else stays in range
-pulled_in_range : (m : Motion) (j : Option Job) (e : Option Ending) (s : Setting) (v r : ℤ) → in_range s v ≡ true → in_range s r ≡ true → in_range s (or_value (pulled m (slot_of j) e s v) r) ≡ true
+pulled_in_range : (m : Motion) (j : Option Work) (e : Option Ending) (s : Setting) (v r : ℤ) → in_range s v ≡ true → in_range s r ≡ true → in_range s (or_value (pulled m (slot_of j) e s v) r) ≡ true
 pulled_in_range m None e s v r h g = g
 pulled_in_range m (Some j) e s v r h g =
     by (wants (parts j.order.targets) s) refl
@@ -85,7 +86,7 @@ pulled_in_range m (Some j) e s v r h g =
     by None i = simp i g
     by (Some t) i = simp i (pulled_to_in_range m j.order.paces s (about s).axis e v t refl h (wants_in_range (parts j.order.targets) s t j.fits i))
 
-pub next_in_range : (m : Motion) (one two : Option Job) (e : Endings) (f : Setting → ℤ) (s : Setting) → in_range s (f s) ≡ true
+pub next_in_range : (m : Motion) (one two : Option Work) (e : Endings) (f : Setting → ℤ) (s : Setting) → in_range s (f s) ≡ true
     → in_range s (value_after m (record { one = slot_of one; two = slot_of two }) e f s) ≡ true
 next_in_range m one two e f s h =
     pulled_in_range m one e.one s (f s) (or_value (pulled m (slot_of two) e.two s (f s)) (unnamed m (about s).axis f s)) h

@@ -9,8 +9,7 @@ use Rattle.head.specs.declared.setting.Axis.TheVariants.{Zoom, Focus, Pan, Tilt}
 use Rattle.head.specs.declared.setting.Setting.{Setting}
 use Rattle.head.specs.declared.target.Target.{Target}
 use Rattle.head.specs.Orders.{wants, names, different}
-use Rattle.head.specs.Settings.{about, same, position}
-use Rattle.heads.proofs.Axes.{axes}
+use Rattle.head.specs.Settings.{about, same, position, axes}
 use Rattle.head.proofs.Tables.{same_is, position_is, axis_is}
 
 not_named : (w : Option ℤ) → not (is_some w) ≡ true → w ≡ None

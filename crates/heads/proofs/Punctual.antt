@@ -1,25 +1,25 @@
 -- A dome that is not stalled keeps its orders in time.
-use Rattle.std.proofs.Common.{◌≡◌, ℕ, ◌+◌, ◌-◌, ◌*◌, ◌/◌, ◌%◌, ◌<◌, ◌≤◌, min, Bool, true, false, eqb, ltb, ℤ, ◌-ℤ◌, nat_abs, Some, None, Option, sym, refl, ap, ◌∙◌, ⊎_elim, le-add_right, mul-le-mul_right, mod-lt, add-mul, one-mul, arith}
+use Rattle.std.proofs.Common.{◌≡◌, ℕ, ◌+◌, ◌-◌, ◌*◌, ◌/◌, ◌%◌, ◌<◌, ◌≤◌, min, Bool, true, false, eqb, ltb, ℤ, ◌-ℤ◌, nat_abs, Ok, Err, Result, OnOk, Some, None, Option, sym, refl, ap, ◌∙◌, ⊎_elim, le-add_right, mul-le-mul_right, mod-lt, add-mul, one-mul, arith}
 use lib.Signed.{le_z}
 use Rattle.std.proofs.lemmas.Nat.{div-add-mod'}
 use Rattle.std.proofs.lemmas.Int.{ints, clamps}
 use Rattle.std.proofs.lemmas.Bool.{and_from, leb-true, le-leb, ltb-false, cases_eq, cond_both}
 use Rattle.head.specs.declared.order.Order.{Order}
 use Rattle.head.specs.declared.outcome.Endings.{Endings}
+use Rattle.head.specs.declared.outcome.Refusal.{Refusal}
 use Rattle.head.specs.declared.setting.Axis.{Axis}
 use Rattle.head.specs.declared.setting.Axis.TheVariants.{Zoom, Focus, Pan, Tilt}
 use Rattle.head.specs.declared.setting.Setting.{Setting}
 use Rattle.head.specs.Settings.{position}
 use Rattle.head.specs.Orders.{parts, wants}
-use Rattle.head.specs.Meaning.{Slot, idle, busy, put, Meaning, Timed, rest, Started, Dropped}
+use Rattle.head.specs.Meaning.{Slot, idle, busy, put, Meaning, Timed, rest, reason_given, Apart, Started, Dropped}
 use Rattle.heads.specs.Motion.{step, toward}
 use Rattle.heads.specs.Exact.{rounded_up, ticks_on, longest, is_at, there, arrived, ending_told, Ran}
 use Rattle.heads.specs.declared.rig.Rig.{Rig}
 use Rattle.heads.specs.Rigs.{rig_meaning}
-use Rattle.heads.proofs.Rigs.{job_timed}
 use Rattle.heads.specs.declared.motion.Motion.TheVariants.{Stepwise}
 use Rattle.heads.proofs.Axes.{each_of, all_of}
-use Rattle.head.proofs.Apart.{Apart}
+use Rattle.head.proofs.Held.{slot_timed, some_number}
 use Rattle.heads.proofs.Lawful.{Moved, moved_one, moved_two}
 use Rattle.heads.proofs.Spans.{moves}
 use Rattle.heads.specs.Punctual.{in_time, punctual, OnTime, is_jammed}
@@ -123,17 +123,15 @@ put_on_time m m' y b same e p h = record {
 pub drop_keeps : (m m' : Meaning) (y : ℕ) → Dropped m y m' → OnTime m → OnTime m'
 drop_keeps m m' y d h = put_on_time m m' y idle d.kept.setting d.now_idle refl h
 
-pub start_keeps : (m m' : Meaning) (y : ℕ) (o : Order) (r : ℕ) → Started m y o r m' → (r ≡ 0 → m'.slots ≡ put m.slots y (busy o (longest m.setting o))) → OnTime m → OnTime m'
-start_keeps m m' y o r s t h =
-    ⊎_elim
-    (λ (e : r ≡ 0). put_on_time m m' y (busy o (longest m.setting o)) s.kept.setting (t e) (start_punctual m.setting o) h)
-    (λ (e : r ≡ 0 → ⊥).
-    let i = s.refused (omega arith) in
+pub start_keeps : (m m' : Meaning) (y : ℕ) (o : Order) (r : Result (Unit {0}) Refusal) → Started m y o (reason_given r) m'
+    → OnOk r (m'.slots ≡ put m.slots y (busy o (longest m.setting o))) → OnTime m → OnTime m'
+start_keeps m m' y o (Ok u) s t h = put_on_time m m' y (busy o (longest m.setting o)) s.kept.setting t (start_punctual m.setting o) h
+start_keeps m m' y o (Err e) s t h =
+    let i = s.refused (some_number e) in
     record {
       one = same_punctual m'.slots.one m.setting m'.setting s.kept.setting (rw i h.one);
       two = same_punctual m'.slots.two m.setting m'.setting s.kept.setting (rw i h.two);
-    })
-    (cases_eq r 0)
+    }
 
 tick_keeps : (m m' : Meaning) (e : Endings) → Timed m.slots.one → Timed m.slots.two → Apart m.slots.one m.slots.two → Ran Stepwise m e m' → OnTime m
     → OnTime m' × ((is_jammed e.one ≡ false) × (is_jammed e.two ≡ false))
@@ -144,4 +142,4 @@ tick_keeps m m' e t₁ t₂ apart ran h =
 
 pub rig_keeps : (p : Bool) (r r' : Rig) (e : Endings) → Ran Stepwise (rig_meaning p r) e (rig_meaning p r') → OnTime (rig_meaning p r)
     → OnTime (rig_meaning p r') × ((is_jammed e.one ≡ false) × (is_jammed e.two ≡ false))
-rig_keeps p r r' e ran h = tick_keeps (rig_meaning p r) (rig_meaning p r') e (job_timed r.one) (job_timed r.two) r.apart ran h
+rig_keeps p r r' e ran h = tick_keeps (rig_meaning p r) (rig_meaning p r') e (slot_timed r.works.one) (slot_timed r.works.two) r.works.apart ran h

@@ -1,5 +1,6 @@
 -- What our heads do, exactly: the ticks that they choose, every setting after a tick, and how orders end.
-use Rattle.std.specs.Prelude.{◌≡◌, ℕ, ◌+◌, ◌/◌, ◌%◌, min, max, Bool, true, false, if◌then◌else◌, ◌&&◌, ℤ, ◌-ℤ◌, Some, None, Option, int_le, nat_lt, unsigned_abs}
+use Rattle.std.specs.Prelude.{◌≡◌, ℕ, ◌+◌, ◌/◌, ◌%◌, min, max, Bool, true, false, if◌then◌else◌, ◌&&◌, ℤ, ◌-ℤ◌}
+use Rattle.std.specs.Prelude.{Some, None, Option, int_le, nat_lt, unsigned_abs}
 use Rattle.head.specs.declared.order.Order.{Order}
 use Rattle.head.specs.declared.order.Paces.{Paces}
 use Rattle.head.specs.declared.outcome.Ending.{Ending}
@@ -11,14 +12,9 @@ use Rattle.head.specs.declared.setting.Setting.{Setting}
 use Rattle.head.specs.Settings.{about, position, drive}
 use Rattle.head.specs.Orders.{parts, wants}
 use Rattle.head.specs.Meaning.{Slot, idle, busy, Slots, Meaning, rest}
-use Rattle.heads.specs.declared.job.Job.{Job}
 use Rattle.heads.specs.declared.motion.Motion.{Motion}
 use Rattle.heads.specs.declared.motion.Motion.TheVariants.{AtOnce, Stepwise, Stalled}
 use Rattle.heads.specs.Motion.{step, moved, driven}
-
-abbrev pub slot_of : Option Job → Slot
-slot_of None = idle
-slot_of (Some j) = busy j.order j.left
 
 -- Ticks of an order, where f has the settings as it starts.
 
@@ -91,7 +87,10 @@ or_value None v = v
 or_value (Some w) v = w
 
 abbrev pub value_after : Motion → Slots → Endings → (Setting → ℤ) → Setting → ℤ
-value_after m b e f s = or_value (pulled m b.one e.one s (f s)) (or_value (pulled m b.two e.two s (f s)) (unnamed m (about s).axis f s))
+value_after m b e f s =
+    or_value (pulled m b.one e.one s (f s))
+    (or_value (pulled m b.two e.two s (f s))
+    (unnamed m (about s).axis f s))
 
 -- a tick of our heads: nothing is left to choose
 pub record Ran (motion : Motion) (m : Meaning) (e : Endings) (m' : Meaning) : Type 0 where

@@ -4,3 +4,4 @@ pub mod Rigs
 pub mod Heads
 pub mod Punctual
 pub mod Any
+pub mod Geared

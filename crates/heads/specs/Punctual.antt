@@ -1,4 +1,5 @@
--- What a dome that is not stalled keeps: every position that an order names is near enough to its target for the ticks left.
+-- What a dome that is not stalled keeps: every position that an order names is near enough to its target for the ticks
+-- left.
 use Rattle.std.specs.Prelude.{ℕ, ◌*◌, Bool, true, false, ◌&&◌, ◌≡◌, ℤ, ◌-ℤ◌, Some, None, Option, nat_le, unsigned_abs}
 use Rattle.head.specs.declared.order.Order.{Order}
 use Rattle.head.specs.declared.outcome.Ending.{Ending}

@@ -1,5 +1,5 @@
 -- A rig as what a head means, and what its code finds before it moves anything.
-use Rattle.std.specs.Prelude.{Bool, true, if◌then◌else◌, ◌&&◌, ℤ, Some, None, Option, nat_lt}
+use Rattle.std.specs.Prelude.{◌≡◌, Bool, true, if◌then◌else◌, ◌&&◌, ℤ, is_some, Some, None, Option, nat_lt}
 use Rattle.head.specs.declared.order.Order.{Order}
 use Rattle.head.specs.declared.outcome.Ending.{Ending}
 use Rattle.head.specs.declared.outcome.Endings.{Endings}
@@ -11,16 +11,20 @@ use Rattle.head.specs.Settings.{about, same, position, drive}
 use Rattle.head.specs.Orders.{parts, wants}
 use Rattle.head.specs.Meaning.{Slot, idle, busy, Slots, Meaning}
 use Rattle.head.specs.Values.{value_of}
+use Rattle.head.specs.Works.{slots_of}
 use Rattle.heads.specs.declared.motion.Motion.{Motion}
 use Rattle.heads.specs.declared.rig.Rig.{Rig}
 use Rattle.heads.specs.Motion.{moved, driven}
-use Rattle.heads.specs.Exact.{slot_of, is_at, is_done, or_value, pulled, value_after}
-
-abbrev pub slots_of : Rig → Slots
-slots_of r = record { one = slot_of r.one; two = slot_of r.two }
+use Rattle.heads.specs.Exact.{is_at, is_done, or_value, pulled, value_after}
 
 abbrev pub rig_meaning : Bool → Rig → Meaning
-rig_meaning pantilt r = record { setting = value_of r.settings; pantilt = pantilt; slots = slots_of r }
+rig_meaning pantilt r = record { setting = value_of r.settings; pantilt = pantilt; slots = slots_of r.works }
+
+-- a rig whose settings have come to the values f, and which is as before otherwise
+pub record MovesOnly (r : Rig) (f : Setting → ℤ) (r' : Rig) : Type 0 where
+  pub values : (s : Setting) → value_of r'.settings s ≡ f s
+  pub motion : r'.motion ≡ r.motion
+  pub slots : slots_of r'.works ≡ slots_of r.works
 
 -- whether this tick takes a position to its target, where g moves it toward one
 abbrev pub reaches : (ℤ → ℤ) → Option ℤ → Bool
@@ -63,3 +67,7 @@ taken_by_orders m b e v s = or (pulled m b.one e.one s v) (pulled m b.two e.two 
 -- settings that have the values f, where the position of an axis goes as an order has it, or as its drive
 abbrev pub followed : Motion → Slots → Endings → Axis → (Setting → ℤ) → Setting → ℤ
 followed m b e a f s = if same s (position a) then value_after m b e f (position a) else f s
+
+-- settings that have the values f, where each position goes as an order has it, or as its drive
+abbrev pub positions_moved : Motion → Slots → Endings → (Setting → ℤ) → Setting → ℤ
+positions_moved m b e f s = if is_some (about s).axis then value_after m b e f s else f s

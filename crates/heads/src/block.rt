@@ -1,13 +1,6 @@
 //! The block: a head without pan and tilt that does every order in one tick.
 
-ghost use Rattle.std.specs.Prelude.{◌≡◌, false};
-ghost use Rattle.head.specs.declared.setting.Setting.{Setting};
-ghost use Rattle.head.specs.Settings.{about};
-ghost use Rattle.head.specs.Values.{value_of};
-ghost use Rattle.head.specs.Meaning.{idle};
-ghost use Rattle.heads.specs.declared.motion.Motion.TheVariants.{AtOnce};
-ghost use Rattle.heads.specs.Rigs.{slots_of};
-ghost use Rattle.std.proofs.Common.{rules};
+ghost use Rattle.std.specs.Prelude.{◌≡◌};
 
 use crate::gear::Gear;
 use crate::geared::Geared;
@@ -19,6 +12,10 @@ use crate::rig::Rig;
 pub struct Fixed;
 
 impl Gear for Fixed {
+    ghost use Rattle.std.specs.Prelude.{false};
+    ghost use Rattle.heads.specs.declared.motion.Motion.TheVariants.{AtOnce};
+    ghost use Rattle.std.proofs.Common.{rules};
+
     ghost PAN_TILT = { false };
 
     ghost motion = { λ g. AtOnce };
@@ -37,10 +34,15 @@ impl Gear for Fixed {
 pub type Block = Geared<Fixed>;
 
 impl Geared<Fixed> {
+    ghost use Rattle.head.specs.declared.setting.Setting.{Setting};
+    ghost use Rattle.head.specs.Meaning.{idle};
+    ghost use Rattle.head.specs.Settings.{about};
+    ghost use Rattle.heads.specs.Geared.{geared_meaning};
+
     /// A block with its first settings, both slots idle.
     pub fn new() -> Block
-        ensures settings { (s : Setting) → value_of result.rig.settings s ≡ (about s).first }
-        ensures slots { slots_of result.rig ≡ record { one = idle; two = idle } }
+        ensures settings { (s : Setting) → (geared_meaning result).setting s ≡ (about s).first }
+        ensures slots { (geared_meaning result).slots ≡ record { one = idle; two = idle } }
     {
         Geared {
             gear: Fixed,

@@ -1,13 +1,9 @@
 //! A rig with its gear, which is a head.
 
-ghost use Rattle.std.specs.Prelude.{◌≡◌, false};
-ghost use Rattle.head.specs.Values.{value_of};
-ghost use Rattle.head.specs.Meaning.{busy, put, reason_given, Started, Ticked, Dropped};
+ghost use Rattle.std.specs.Prelude.{◌≡◌};
 ghost use Rattle.heads.specs.declared.motion.Motion.TheVariants.{Stepwise};
-ghost use Rattle.heads.specs.Exact.{Ran};
-ghost use Rattle.heads.specs.Rigs.{rig_meaning, slots_of};
-ghost use Rattle.heads.specs.Punctual.{OnTime, is_jammed};
-ghost use Rattle.std.proofs.Common.{rules};
+ghost use Rattle.heads.specs.Punctual.{OnTime};
+ghost use Rattle.heads.specs.Rigs.{rig_meaning};
 
 use crate::gear::Gear;
 use crate::rig::Rig;
@@ -25,6 +21,9 @@ pub struct Geared<G: Gear> {
 
 // The rig does it all. It keeps the gear's motion and needs nothing more of it, so its code and proofs name no gear.
 impl<G: Gear> Look for Geared<G> {
+    ghost use Rattle.head.specs.Values.{value_of};
+    ghost use Rattle.std.proofs.Common.{rules};
+
     ghost setting = { λ h. value_of h.rig.settings };
 
     ghost pantilt = { λ h. G.PAN_TILT };
@@ -32,7 +31,7 @@ impl<G: Gear> Look for Geared<G> {
     ghost ranged = { Prim.search rules };
 
     fn look(&self, number: u8) -> Option<i32> {
-        self.rig.look(number)
+        self.rig.settings.look(number)
     }
 
     fn has_pan_tilt(&self) -> bool {
@@ -41,13 +40,21 @@ impl<G: Gear> Look for Geared<G> {
 }
 
 impl<G: Gear> Head for Geared<G> {
-    ghost slots = { λ h. slots_of h.rig };
+    ghost use Rattle.std.specs.Prelude.{false, ◌≢◌, OnOk, OnErr};
+    ghost use Rattle.head.specs.Meaning.{busy, put, reason_given, Started, Ticked, Dropped};
+    ghost use Rattle.head.specs.Works.{slots_of};
+    ghost use Rattle.heads.specs.Exact.{Ran};
+    ghost use Rattle.heads.specs.Geared.{gear_of, rig_of, geared_meaning};
+    ghost use Rattle.heads.specs.Punctual.{is_jammed};
+    ghost use Rattle.std.proofs.Common.{rules};
 
-    ghost started = { λ x y o r z. Started (rig_meaning G.PAN_TILT x.rig) y o (reason_given r) (rig_meaning G.PAN_TILT z.rig) };
+    ghost slots = { λ h. slots_of h.rig.works };
 
-    ghost ticked = { λ x e z. Ticked (rig_meaning G.PAN_TILT x.rig) e (rig_meaning G.PAN_TILT z.rig) };
+    ghost started = { λ x y o r z. Started (geared_meaning x) y o (reason_given r) (geared_meaning z) };
 
-    ghost dropped = { λ x y z. Dropped (rig_meaning G.PAN_TILT x.rig) y (rig_meaning G.PAN_TILT z.rig) };
+    ghost ticked = { λ x e z. Ticked (geared_meaning x) e (geared_meaning z) };
+
+    ghost dropped = { λ x y z. Dropped (geared_meaning x) y (geared_meaning z) };
 
     ghost start_means = { λ x y o r z h. h };
 
@@ -58,32 +65,38 @@ impl<G: Gear> Head for Geared<G> {
     ghost timed = { Prim.search rules };
 
     fn ticks_left(&self, slot: u8) -> u16 {
-        self.rig.ticks_left(slot)
+        self.rig.works.ticks_left(slot)
     }
 
     #[inline(always)]
     fn start(&mut self, slot: u8, order: &Order) -> Result<(), Refusal>
-        ensures started { Started (rig_meaning G.PAN_TILT self.old.rig) slot order.now (reason_given result) (rig_meaning G.PAN_TILT self.new.rig) }
-        ensures ticks { reason_given result ≡ 0 → slots_of self.new.rig ≡ put (slots_of self.old.rig) slot (busy order.now (G.ticks (value_of self.old.rig.settings) order.now)) }
-        ensures gear { self.new.gear ≡ self.old.gear }
+        ensures started { Started (geared_meaning self.old) slot order.now
+            (reason_given result) (geared_meaning self.new) }
+        ensures ticks { let n = G.ticks (geared_meaning self.old).setting order.now in
+            OnOk result (
+            (geared_meaning self.new).slots ≡ put (geared_meaning self.old).slots slot (busy order.now n)) }
+        ensures gear { gear_of self.new ≡ gear_of self.old }
+        ensures refused { OnErr result (rig_of self.new ≡ rig_of self.old) }
     {
         self.rig.start(G::PAN_TILT, slot, order)
     }
 
     #[inline(always)]
     fn tick(&mut self) -> Endings
-        ensures lawful { Ticked (rig_meaning G.PAN_TILT self.old.rig) result (rig_meaning G.PAN_TILT self.new.rig) }
-        ensures exact { Ran (G.motion self.old.gear) (rig_meaning G.PAN_TILT self.old.rig) result (rig_meaning G.PAN_TILT self.new.rig) }
-        ensures arrives { G.motion self.old.gear ≡ Stepwise → (is_jammed result.one ≡ false) × (is_jammed result.two ≡ false) }
-        ensures gear { self.new.gear ≡ self.old.gear }
+        ensures lawful { Ticked (geared_meaning self.old) result (geared_meaning self.new) }
+        ensures exact { Ran (G.motion (gear_of self.old)) (geared_meaning self.old) result (geared_meaning self.new) }
+        ensures arrives { G.motion (gear_of self.old) ≡ Stepwise
+            → (is_jammed result.one ≡ false) × (is_jammed result.two ≡ false) }
+        ensures gear { gear_of self.new ≡ gear_of self.old }
     {
         self.rig.tick()
     }
 
     fn drop_slot(&mut self, slot: u8)
-        ensures dropped { Dropped (rig_meaning G.PAN_TILT self.old.rig) slot (rig_meaning G.PAN_TILT self.new.rig) }
-        ensures gear { self.new.gear ≡ self.old.gear }
+        ensures dropped { Dropped (geared_meaning self.old) slot (geared_meaning self.new) }
+        ensures gear { gear_of self.new ≡ gear_of self.old }
+        ensures no_slot { slot ≢ 1 → slot ≢ 2 → rig_of self.new ≡ rig_of self.old }
     {
-        self.rig.drop_slot(slot)
+        self.rig.works.drop_slot(slot)
     }
 }

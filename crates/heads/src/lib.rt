@@ -8,13 +8,8 @@ mod block;
 mod dome;
 mod gear;
 mod geared;
-mod job;
 mod motion;
-mod positions;
 mod rig;
-mod slots;
-mod tick;
-mod ticks;
 
 pub use any::{AnyHead, HeadKind, NoSuchHead, OneOf};
 pub use block::Block;

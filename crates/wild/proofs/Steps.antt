@@ -8,22 +8,13 @@ use Rattle.head.specs.declared.outcome.Endings.{Endings}
 use Rattle.head.specs.declared.setting.Axis.{Axis}
 use Rattle.head.specs.declared.setting.Setting.{Setting}
 use Rattle.head.specs.Settings.{about, number, same, in_range, position, drive}
-use Rattle.head.specs.Orders.{parts}
 use Rattle.head.specs.Meaning.{Meaning, Between, Pulled, Driven, wanted}
 use Rattle.head.proofs.Apart.{other_none}
 use Rattle.head.proofs.Bounds.{between_in_range}
 use Rattle.head.proofs.Options.{no_some, some_out}
 use Rattle.head.proofs.Tables.{position_is, same_is}
-use Rattle.head.proofs.Wants.{wants_in_range}
-use Rattle.wild.specs.declared.work.Work.{Work}
-use Rattle.wild.specs.Works.{slot_of}
 use Rattle.wild.specs.Wilds.{Leads, Alone, Goes}
 use Rattle.wild.proofs.Ways.{driven_part}
-
--- what the order of a slot wants is in range
-pub wanted_in_range : (w : Option Work) (s : Setting) (t : ℤ) → wanted (slot_of w) s ≡ Some t → in_range s t ≡ true
-wanted_in_range None s t e = no_some e
-wanted_in_range (Some w) s t e = wants_in_range (parts w.order.targets) s t w.fits e
 
 between_ranged : (s : Setting) (a : Axis) (v t y : ℤ) → (about s).axis ≡ Some a → in_range s v ≡ true → in_range s t ≡ true → Between v y t → in_range s y ≡ true
 between_ranged s a v t y i h g b =

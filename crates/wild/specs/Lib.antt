@@ -1,3 +1,2 @@
 pub mod Dice
-pub mod Works
 pub mod Wilds

@@ -1,22 +1,24 @@
 -- The wild head as what a head means, and what a tick asks of one setting.
-use Rattle.std.specs.Prelude.{◌≡◌, true, ℤ, Some, None, Option}
+use Rattle.std.specs.Prelude.{◌≡◌, ℕ, true, ℤ, Some, None, Option}
 use Rattle.head.specs.declared.outcome.Ending.{Ending}
 use Rattle.head.specs.declared.outcome.Endings.{Endings}
 use Rattle.head.specs.declared.setting.Axis.{Axis}
 use Rattle.head.specs.declared.setting.Setting.{Setting}
 use Rattle.head.specs.Settings.{about, in_range, drive}
-use Rattle.head.specs.Meaning.{Slots, Meaning, Pulled, Driven, wanted, Unnamed}
+use Rattle.head.specs.Meaning.{Meaning, Pulled, Driven, wanted, Unnamed}
 use Rattle.head.specs.Values.{value_of}
+use Rattle.head.specs.Works.{slots_of}
 use Rattle.wild.specs.declared.wild.Wild.{Wild}
-use Rattle.wild.specs.Works.{slot_of}
 
-abbrev pub slots_of : Wild → Slots
-slots_of h = record { one = slot_of h.one; two = slot_of h.two }
+-- the number that its dice lie at
+abbrev pub dice_of : Wild → ℕ
+dice_of h = h.dice
 
 abbrev pub wild_meaning : Wild → Meaning
-wild_meaning h = record { setting = value_of h.settings; pantilt = h.pan_tilt; slots = slots_of h }
+wild_meaning h = record { setting = value_of h.settings; pantilt = h.pan_tilt; slots = slots_of h.works }
 
--- where an order that fared as e takes a setting from v: nowhere if it wants nothing of it, and else where every head's may
+-- where an order that fared as e takes a setting from v: nowhere if it wants nothing of it, and else where every
+-- head's may
 abbrev pub Leads : Option ℤ → Option Axis → Option Ending → ℤ → Option ℤ → Type 0
 Leads None x e v r = r ≡ None
 Leads (Some t) x e v None = ⊥

@@ -4,16 +4,30 @@ ghost use Rattle.std.specs.Prelude.{◌≡◌, ◌<◌, max};
 ghost use Rattle.head.specs.Meaning.{Between};
 ghost use Rattle.wild.specs.Dice.{stirred, face};
 
+use head::Ticks;
+use std::marker::Model;
+
 /// A generator of numbers: each is made of the one before it, and the first of the seed.
 #[derive(Clone, Copy, Debug, PartialEq, Eq)]
 pub struct Dice {
     state: u32,
 }
 
+// Dice are the number that they lie at.
+impl Model for Dice {
+    ghost use Rattle.std.specs.Prelude.{ℕ};
+
+    ghost Value = { ℕ };
+
+    ghost view = { λ d. d.state };
+
+    ghost inverse = { λ n. record { state = n } };
+}
+
 impl Dice {
     /// Dice that begin at this seed.
     pub fn new(seed: u32) -> Dice
-        ensures { result.state ≡ seed }
+        ensures { result ≡ seed }
     {
         Dice { state: seed }
     }
@@ -22,8 +36,8 @@ impl Dice {
     /// they lie pin which.
     pub fn roll(&mut self, sides: u32) -> u32
         ensures within { result < max 1 sides }
-        ensures pinned { result ≡ face (stirred self.old.state) sides }
-        ensures next { self.new.state ≡ stirred self.old.state }
+        ensures pinned { result ≡ face (stirred self.old) sides }
+        ensures next { self.new ≡ stirred self.old }
     {
         self.state = self.state.wrapping_mul(1664525).wrapping_add(1013904223);
         // The lower digits of such numbers repeat too soon.
@@ -46,6 +60,13 @@ impl Dice {
             from.saturating_add_unsigned(way)
         } else {
             from.saturating_sub_unsigned(way)
+        }
+    }
+
+    /// The ticks of an order, any that it may take.
+    pub(crate) fn ticks(&mut self) -> Ticks {
+        Ticks {
+            count: 1 + self.roll(1000) as u16,
         }
     }
 }

@@ -1,5 +1,6 @@
-use Rattle.std.proofs.Common.{◌∙◌}
+use Rattle.std.proofs.Common.{refl}
 use Rattle.heads.specs.Rigs.{rig_meaning}
+use Rattle.heads.specs.declared.rig.Rig.{Rig}
 use Rattle.heads.proofs.Punctual.{drop_keeps}
 use Rattle.heads.proofs.geared.GearedHead.drop_slot.Goals as goal
 
@@ -7,10 +8,9 @@ pub invariant_of-self : goal.invariant_of-self
 invariant_of-self g c =
     let h = c.args.self.now in
     let p = g.G.Gear.PAN_TILT in
+    let r : Rig = record { motion = h.rig.motion; settings = h.rig.settings; works = c.drop_slot.new.self } in
     record {
-      moves = c.drop_slot.ensures.motion ∙ h.moves;
-      on_time = λ e. drop_keeps (rig_meaning p h.rig) (rig_meaning p c.drop_slot.new.self) c.args.slot (c.drop_slot.ensures.dropped p) (h.on_time e);
+      moves = h.moves;
+      on_time = λ e. drop_keeps (rig_meaning p h.rig) (rig_meaning p r) _
+          (record { kept = record { setting = λ s. refl; pantilt = refl }; now_idle = c.drop_slot.ensures.now_idle }) (h.on_time e);
     }
-
-pub returns-clause-dropped : goal.returns-clause-dropped
-returns-clause-dropped g c = c.drop_slot.ensures.dropped g.G.Gear.PAN_TILT

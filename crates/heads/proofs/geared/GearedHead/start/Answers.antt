@@ -1,5 +1,4 @@
 use Rattle.std.proofs.Common.{◌∙◌}
-use Rattle.head.specs.Meaning.{reason_given}
 use Rattle.heads.specs.Rigs.{rig_meaning}
 use Rattle.heads.proofs.Punctual.{start_keeps}
 use Rattle.heads.proofs.geared.GearedHead.start.Goals as goal
@@ -11,5 +10,5 @@ invariant_of-self g c =
     let s = simp c.PAN_TILT.ensures at c.start.ensures.started in
     record {
       moves = c.start.ensures.motion ∙ h.moves;
-      on_time = λ e. start_keeps (rig_meaning p h.rig) (rig_meaning p c.start.new.self) c.args.slot c.args.order.now (reason_given c.start.result) s (simp (h.moves ∙ e) at c.start.ensures.ticks) (h.on_time e);
+      on_time = λ e. start_keeps (rig_meaning p h.rig) (rig_meaning p c.start.new.self) c.args.slot c.args.order.now c.start.result s (simp (h.moves ∙ e) at c.start.ensures.ticks) (h.on_time e);
     }

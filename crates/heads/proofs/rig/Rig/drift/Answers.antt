@@ -1,4 +1,4 @@
-use Rattle.std.proofs.Common.{ap, pos, arith, ◌≡◌, true, ℤ, sym, ◌∙◌, subst, w32, SFits, to_z, of_z, rules}
+use Rattle.std.proofs.Common.{ap, refl, pos, arith, ◌≡◌, true, ℤ, sym, ◌∙◌, subst, w32, SFits, to_z, of_z, rules}
 use Rattle.std.proofs.lemmas.Int.{ints, to_z-of_z}
 use Rattle.head.specs.declared.setting.Setting.{Setting}
 use Rattle.head.specs.Settings.{in_range, position, drive}
@@ -22,8 +22,12 @@ invariant_of-put c =
           (subst (λ (w : ℤ). in_range (position a) w ≡ true) (sym v) h);
     }
 
-pub returns-else-get-ne0-clause-values : goal.returns-else-get-ne0-clause-values
-returns-else-get-ne0-clause-values c = λ s.
+pub returns-else-get-ne0 : goal.returns-else-get-ne0
+returns-else-get-ne0 c =
     let rig = c.args.self.now in
     let z : c.get.result ≡ pos 0 = omega (arith, ints) in
-    stands rig.motion c.args.axis (value_of rig.settings) s (rig.settings.ranged (position c.args.axis)) (ap (value_of rig.settings) (sym c.drive.ensures) ∙ sym c.get.ensures ∙ z)
+    record {
+      values = λ s. stands rig.motion c.args.axis (value_of rig.settings) s (rig.settings.ranged (position c.args.axis)) (ap (value_of rig.settings) (sym c.drive.ensures) ∙ sym c.get.ensures ∙ z);
+      motion = refl;
+      slots = refl;
+    }

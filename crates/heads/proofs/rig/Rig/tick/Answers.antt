@@ -4,6 +4,5 @@ use Rattle.heads.proofs.rig.Rig.tick.Goals as goal
 
 pub returns-clause-ran : goal.returns-clause-ran
 returns-clause-ran c p =
-    let m = c.drift_all.ensures.rest in
     idle_ran c.args.self.now c.drift_all.new.self p (sym c.is_some.ensures ∙ c.if-is_some.false) (sym c.is_some-else-is_some.ensures ∙ c.if-is_some-2.false)
-    m.1 m.2 c.drift_all.ensures.values
+    c.drift_all.ensures

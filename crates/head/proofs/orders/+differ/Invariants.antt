@@ -1,5 +1,0 @@
-use Rattle.std.proofs.Common.{length}
-use Rattle.head.proofs.orders.+differ.Given as goal
-
-abbrev pub decreases-differ : goal.decreases-differ
-decreases-differ l = length l.targets.now
