@@ -3,4 +3,5 @@ pub mod Exact
 pub mod Rigs
 pub mod Heads
 pub mod Punctual
+pub mod Any
 pub mod Geared

@@ -1,12 +1,6 @@
 //! Heads of one make or another, for programs that learn only as they run which head to make.
 
 ghost use Rattle.std.specs.Prelude.{◌≡◌};
-ghost use Rattle.head.specs.declared.setting.Setting.{Setting};
-ghost use Rattle.head.specs.Meaning.{idle};
-ghost use Rattle.std.proofs.Common.{rules};
-ghost use Rattle.head.specs.Settings.{about};
-ghost use Rattle.heads.specs.Any.{head_named, kind_of, of_either, Alike};
-ghost use Rattle.heads.specs.declared.any.OneOf.TheVariants.{First, Second};
 
 use crate::block::Block;
 use crate::dome::Dome;
@@ -27,6 +21,8 @@ pub enum HeadKind {
 pub struct NoSuchHead;
 
 impl FromStr for HeadKind {
+    ghost use Rattle.heads.specs.Any.{head_named};
+
     type Err = NoSuchHead;
 
     ghost from_str_gives = { λ word kind. kind ≡ head_named word };
@@ -52,6 +48,11 @@ pub enum OneOf<A, B> {
 pub type AnyHead = OneOf<Block, Dome>;
 
 impl OneOf<Block, Dome> {
+    ghost use Rattle.head.specs.declared.setting.Setting.{Setting};
+    ghost use Rattle.head.specs.Meaning.{idle};
+    ghost use Rattle.head.specs.Settings.{about};
+    ghost use Rattle.heads.specs.Any.{kind_of};
+
     /// A head of that kind with its first settings, both slots idle.
     pub fn new(kind: HeadKind) -> AnyHead
         ensures kind { kind_of result ≡ kind }
@@ -67,6 +68,9 @@ impl OneOf<Block, Dome> {
 }
 
 impl<A: Look, B: Look> Look for OneOf<A, B> {
+    ghost use Rattle.heads.specs.Any.{of_either};
+    ghost use Rattle.heads.specs.declared.any.OneOf.TheVariants.{First, Second};
+
     ghost setting = { of_either A.setting B.setting };
 
     ghost pantilt = { of_either A.pantilt B.pantilt };
@@ -89,9 +93,13 @@ impl<A: Look, B: Look> Look for OneOf<A, B> {
 }
 
 impl<A: Head, B: Head> Head for OneOf<A, B> {
+    ghost use Rattle.heads.specs.Any.{of_either, Alike};
+    ghost use Rattle.std.proofs.Common.{rules};
+
     ghost slots = { of_either A.slots B.slots };
 
-    ghost started = { λ x y o r x'. Alike (λ a a'. A.started a y o r a') (λ b b'. B.started b y o r b') x x' };
+    ghost started = { λ x y o r x'. Alike
+        (λ a a'. A.started a y o r a') (λ b b'. B.started b y o r b') x x' };
 
     ghost ticked = { λ x e x'. Alike (λ a a'. A.ticked a e a') (λ b b'. B.ticked b e b') x x' };
 

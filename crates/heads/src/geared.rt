@@ -44,23 +44,23 @@ impl<G: Gear> Head for Geared<G> {
     ghost use Rattle.head.specs.Meaning.{busy, put, reason_given, Started, Ticked, Dropped};
     ghost use Rattle.head.specs.Works.{slots_of};
     ghost use Rattle.heads.specs.Exact.{Ran};
-    ghost use Rattle.heads.specs.Geared.{gear_of, rig_of, geared_meaning};
+    ghost use Rattle.heads.specs.Geared.{gear_of, rig_of, geared_meaning, GearStarts, GearTicks, GearDrops};
     ghost use Rattle.heads.specs.Punctual.{is_jammed};
     ghost use Rattle.std.proofs.Common.{rules};
 
     ghost slots = { λ h. slots_of h.rig.works };
 
-    ghost started = { λ x y o r z. Started (geared_meaning x) y o (reason_given r) (geared_meaning z) };
+    ghost started = { λ x y o r z. GearStarts (G.ticks (geared_meaning x).setting o) x y o r z };
 
-    ghost ticked = { λ x e z. Ticked (geared_meaning x) e (geared_meaning z) };
+    ghost ticked = { λ x e z. GearTicks (G.motion (gear_of x)) x e z };
 
-    ghost dropped = { λ x y z. Dropped (geared_meaning x) y (geared_meaning z) };
+    ghost dropped = { GearDrops };
 
-    ghost start_means = { λ x y o r z h. h };
+    ghost start_means = { λ x y o r z h. h.started };
 
-    ghost tick_means = { λ x e z h. h };
+    ghost tick_means = { λ x e z h. h.ticked };
 
-    ghost drop_means = { λ x y z h. h };
+    ghost drop_means = { λ x y z h. h.dropped };
 
     ghost timed = { Prim.search rules };
 

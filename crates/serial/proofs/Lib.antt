@@ -1,3 +1,6 @@
 pub mod Turned
+pub mod Reading
+pub mod Moving
+pub mod Serving
 pub mod Numbers
 pub mod Owing

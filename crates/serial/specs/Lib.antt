@@ -1,3 +1,5 @@
+pub mod Outside
+pub mod Streams
 pub mod Lengths
 pub mod Ticks
 pub mod Silences

@@ -1,8 +1,8 @@
 -- Quiet reads: what is counted, and what it tells of the line.
 use Rattle.std.specs.Prelude.{ℕ, ◌+◌, ◌-◌, ◌%◌, ◌^◌, Bool, false, if◌then◌else◌, ◌&&◌, min, Some, None, Option, ◌==◌, nat_le, nat_lt, [], ◌∷◌}
 use Rattle.head.specs.Cases.{first_case}
-use Rattle.serial.specs.declared.silence.Hearing.{Hearing}
-use Rattle.serial.specs.declared.silence.Hearing.TheVariants.{On, Quiet, Gone}
+use Rattle.serial.specs.declared.silence.Finish.{Finish}
+use Rattle.serial.specs.declared.silence.Finish.TheVariants.{Quiet, Gone}
 use Rattle.serial.specs.declared.silence.Silence.{Silence}
 
 -- quiet reads in a row, with one more
@@ -25,11 +25,12 @@ abbrev pub enough : Option ℕ → ℕ → Bool
 enough None n = false
 enough (Some most) n = nat_le most n
 
-abbrev pub hearing : Silence → ℕ → ℕ → Option ℕ → Hearing
-hearing s count now quiet =
+-- what ends serving after such a read, if anything does: that the line has gone is told first
+abbrev pub finish : Silence → ℕ → ℕ → Option ℕ → Option Finish
+finish s count now quiet =
     first_case (
-      (nat_lt 0 count, On)
-      ∷ (whole s && nat_lt (now - s.since) 1000, Gone)
-      ∷ (enough quiet (more s), Quiet)
+      (nat_lt 0 count, None)
+      ∷ (whole s && nat_lt (now - s.since) 1000, Some Gone)
+      ∷ (enough quiet (more s), Some Quiet)
       ∷ []
-    ) On
+    ) None

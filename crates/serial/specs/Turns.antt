@@ -1,70 +1,70 @@
--- What a turn does: calls made in order on an end, and what they send put on the line.
-use Rattle.std.specs.Prelude.{◌≡◌, ℕ, ◌<◌, List, [], ◌∷◌, ◌++◌, length, map, replicate, Option}
-use Rattle.std.specs.Io.KnownBytes.{Appends, Consumes}
+-- What a turn does: calls made in order on an end, each with its reply put on the line before the next; and what serving comes to.
+use Rattle.std.specs.Prelude.{◌≡◌, ◌≢◌, ℕ, ◌-◌, ◌/◌, ◌^◌, ◌<◌, min, max, List, [], ◌∷◌, ◌++◌, length, map, replicate, Some, None, Ok, Err, Option, Result, IfErr}
+use Rattle.std.specs.IoError.{error_kind}
+use Rattle.std.specs.Time.{instant_nanos}
+use Rattle.std.specs.declared.io.Error.{Error}
+use Rattle.std.specs.declared.io.ErrorKind.TheVariants.{Interrupted}
+use Rattle.std.specs.declared.time.Instant.{Instant}
 use Rattle.end.specs.declared.call.Call.{Call}
 use Rattle.end.specs.declared.call.Call.TheVariants.{Byte, Tick}
-use Rattle.end.specs.Book.{Entry}
-use Rattle.end.specs.Faults.{Answer}
-use Rattle.end.specs.Law.{Run, Lawful, calls_of, sent_by, room_for}
-use Rattle.end.specs.States.{State, InRange, state}
-use Rattle.end.specs.Steps.{Step}
-use Rattle.head.specs.Meaning.{Meaning}
+use Rattle.end.specs.Law.{LawfulBehind}
+use Rattle.end.specs.Records.{Record, calls_of, room_for}
+use Rattle.end.specs.Runs.{Calls}
+use Rattle.end.specs.States.{State, state}
 use Rattle.head.specs.declared.traits.Head.{Ghosts as HeadGhosts}
 use Rattle.head.specs.declared.traits.Look.{Ghosts as LookGhosts}
 use Rattle.serial.specs.declared.port.Port.{Port}
-use Rattle.serial.specs.declared.silence.Hearing.{Hearing}
-use Rattle.serial.specs.declared.silence.Hearing.TheVariants.{On}
+use Rattle.serial.specs.declared.silence.Finish.{Finish}
 use Rattle.serial.specs.declared.silence.Silence.{Silence}
 use Rattle.serial.specs.declared.ticks.Ticks.{Ticks}
-use Rattle.serial.specs.Silences.{heard, hearing}
+use Rattle.serial.specs.Outside.{Operation, reads, writes, tells, Operating, Operated}
+use Rattle.serial.specs.Silences.{heard, finish}
 use Rattle.serial.specs.Ticks.{owed, paid_at}
 
 -- the calls of a turn: each byte that was read, and then the ticks owed
 abbrev pub calls_in : List ℕ → ℕ → List Call
 calls_in bytes ticks = map Byte bytes ++ replicate ticks Tick
 
--- Calls made on an end in state s, each with a buffer of 16 bytes, which is room for all that a call sends: none is refused for
--- want of room. The newest entry stands first.
-pub data After (s : State) : List Entry → State → Type 0 where
-  none : After s [] s
-  then : {h : List Entry} {s' s'' : State} (e : Entry) (a : Answer) → After s h s' → e.room ≡ room_for e.call 16 → Step s' e.call e.room a e.sent s'' →
-      InRange s'' → After s (e ∷ h) s''
+-- each call had a buffer of 16 bytes, which is room for all that a call sends: none is refused for want of room
+abbrev pub HadRoom : List Record → Type 0
+HadRoom [] = Unit {0}
+HadRoom (r ∷ h) = (r.fed.room ≡ room_for r.fed.call 16) × HadRoom h
 
--- what the law over runs makes of them: behind every run that leads to s they are a run, and the law holds after each
-abbrev pub LawfulBehind : State → List Entry → State → Type 0
-LawfulBehind s h s' = (m : Meaning) (before : List Entry) → Run m before s → Lawful m (h ++ before) s'
+-- a call that sends nothing writes nothing
+abbrev pub reply : List ℕ → Result (Unit {0}) Error → List Operation
+reply [] r = []
+reply (b ∷ bs) r = writes (b ∷ bs) r ∷ []
 
--- these calls were made in turn, and all that they sent was written, in order; the line held `old` and then holds `new`, where that
--- is known
-pub record Answered (calls : List Call) (s s' : State) (old new : Option (List ℕ)) : Type 0 where
-  pub entries : List Entry
-  pub asked : calls_of entries ≡ calls
-  pub made : After s entries s'
-  pub law : LawfulBehind s entries s'
-  pub written : Appends old new (sent_by entries)
+-- what calls sent, each written by itself, the oldest first
+abbrev pub replies : List Record → List Operation
+replies [] = []
+replies (r ∷ h) = replies h ++ reply r.fed.sent (Ok tt)
 
--- What a call sent could not be written, and no call was made after it: each reply goes out before the next call is made.
-pub record Failed (calls : List Call) (s s' : State) : Type 0 where
-  pub last : Entry
-  pub before : List Entry
+-- these calls were made in turn from s to s', and what each sent was written
+pub record Answered {O : Type 0} (op : Operating O) (calls : List Call) (s : State) (x : O) (s' : State) (y : O) : Type 0 where
+  pub records : List Record
+  pub asked : calls_of records ≡ calls
+  pub made : Calls s records s'
+  pub room : HadRoom records
+  pub law : LawfulBehind s records s'
+  pub written : Operated op x (replies records) y
+
+-- What a call sent could not be written, for the reason e, and no call was made after it: each reply goes out before the next call
+-- is made.
+pub record Failed {O : Type 0} (op : Operating O) (calls : List Call) (e : Error) (s : State) (x : O) (s' : State) (y : O) : Type 0 where
+  pub last : Record
+  pub before : List Record
   pub left : List Call
   pub asked : calls_of (last ∷ before) ++ left ≡ calls
-  pub made : After s (last ∷ before) s'
+  pub made : Calls s (last ∷ before) s'
+  pub room : HadRoom (last ∷ before)
   pub law : LawfulBehind s (last ∷ before) s'
-  pub lost : 0 < length last.sent
+  pub lost : 0 < length last.fed.sent
+  pub written : Operated op x (replies before ++ writes last.fed.sent (Err e) ∷ []) y
 
--- Many turns.
+-- Turn after turn.
 
--- after a read of these bytes, at this time
-pub record Turn : Type 0 where
-  pub bytes : List ℕ
-  pub now : ℕ
-
-abbrev pub bytes_read : List Turn → List ℕ
-bytes_read [] = []
-bytes_read (x ∷ xs) = x.bytes ++ bytes_read xs
-
--- a box: its end, the ticks paid, the silence of the line, and after how many quiet reads it is quiet
+-- a box: its end, the ticks paid, the silence of the line, and after how many quiet reads serving ends
 pub record Box : Type 0 where
   pub end : State
   pub ticks : Ticks
@@ -74,42 +74,71 @@ pub record Box : Type 0 where
 abbrev pub box : {H : Type 0} {h : HeadGhosts H} {l : LookGhosts H} → Port H h l → Box
 box {h = h} {l = l} p = record { end = state p.end; ticks = p.ticks; silence = p.silence; quiet = p.quiet }
 
--- the ticks that are paid after turns, the calls made, by the ticks owed at each, and the silence then
-abbrev pub ticks_after : Ticks → List Turn → Ticks
-ticks_after t [] = t
-ticks_after t (x ∷ xs) = ticks_after (paid_at t x.now) xs
+-- between turns: a box, the time of its last turn, and what is outside
+pub record Moment (O : Type 0) : Type 0 where
+  pub box : Box
+  pub time : ℕ
+  pub outside : O
 
-abbrev pub calls_over : Ticks → List Turn → List Call
-calls_over t [] = []
-calls_over t (x ∷ xs) = calls_in x.bytes (owed t x.now) ++ calls_over (paid_at t x.now) xs
+-- what a turn begins with: the bytes of a read, and what the clock told after it
+pub record Turn : Type 0 where
+  pub bytes : List ℕ
+  pub told : Instant
 
-abbrev pub silence_after : Silence → List Turn → Silence
-silence_after k [] = k
-silence_after k (x ∷ xs) = silence_after (heard k (length x.bytes) x.now) xs
+-- whole milliseconds from the start to what the clock told; where the clock went back, time stands
+abbrev pub time_then : Instant → ℕ → Instant → ℕ
+time_then start time told = max time (min ((instant_nanos told - instant_nanos start) / 1_000_000) (2 ^ 64 - 1))
 
--- the line went on after each turn but the last, and that one told h
-abbrev pub HearingsTold : Option ℕ → Silence → List Turn → Hearing → Type 0
-HearingsTold q k [] h = h ≡ On
-HearingsTold q k (x ∷ []) h = h ≡ hearing k (length x.bytes) x.now q
-HearingsTold q k (x ∷ y ∷ xs) h = (On ≡ hearing k (length x.bytes) x.now q) × HearingsTold q (heard k (length x.bytes) x.now) (y ∷ xs) h
+-- a read that answered r; one that a signal broke off, before a byte came, is made again
+pub data Unbroken {O : Type 0} (op : Operating O) : O → Result (List ℕ) Error → O → Type 0 where
+  read : {x y : O} (r : Result (List ℕ) Error) → IfErr r (λ e. error_kind e ≢ Interrupted) → op x (reads r) y → Unbroken op x r y
+  again : {x y z : O} {r : Result (List ℕ) Error} (e : Error) → error_kind e ≡ Interrupted → op x (reads (Err e)) y → Unbroken op y r z → Unbroken op x r z
 
--- These turns were made, and no other call, and the last told h. Their bytes are those that were read, and all that was sent was written,
--- both in order: `input` was still to be read and then `input'`, the line held `old` and then holds `new`, where that is known.
-pub record Served (b b' : Box) (h : Hearing) (input input' old new : Option (List ℕ)) : Type 0 where
-  pub turns : List Turn
-  pub entries : List Entry
-  pub asked : calls_of entries ≡ calls_over b.ticks turns
-  pub ticks : b'.ticks ≡ ticks_after b.ticks turns
-  pub silence : b'.silence ≡ silence_after b.silence turns
-  pub quiet : b'.quiet ≡ b.quiet
-  pub told : HearingsTold b.quiet b.silence turns h
-  pub made : After b.end entries b'.end
-  pub law : LawfulBehind b.end entries b'.end
-  pub heard : Consumes input input' (bytes_read turns)
-  pub written : Appends old new (sent_by entries)
+pub record Begun {O : Type 0} (op : Operating O) (x : O) (t : Turn) (y : O) : Type 0 where
+  pub between : O
+  pub read : Unbroken op x (Ok t.bytes) between
+  pub clock : op between (tells (Ok t.told)) y
 
--- calls were made in turn, and then something failed
-pub record Stopped (s s' : State) : Type 0 where
-  pub entries : List Entry
-  pub made : After s entries s'
-  pub law : LawfulBehind s entries s'
+-- the calls that a turn makes, by the ticks that are owed at its time
+abbrev pub calls_then : Instant → Ticks → ℕ → Turn → List Call
+calls_then start ticks time t = calls_in t.bytes (owed ticks (time_then start time t.told))
+
+-- what a turn leaves of time, ticks and silence
+pub record Kept {O : Type 0} (start : Instant) (m : Moment O) (t : Turn) (m' : Moment O) : Type 0 where
+  pub time : m'.time ≡ time_then start m.time t.told
+  pub ticks : m'.box.ticks ≡ paid_at m.box.ticks m'.time
+  pub silence : m'.box.silence ≡ heard m.box.silence (length t.bytes) m'.time
+  pub quiet : m'.box.quiet ≡ m.box.quiet
+
+-- a whole turn from m to m', with what ends serving then, if anything does
+pub record TurnMade {O : Type 0} (op : Operating O) (start : Instant) (m : Moment O) (t : Turn) (h : Option Finish) (m' : Moment O) : Type 0 where
+  pub between : O
+  pub begun : Begun op m.outside t between
+  pub answered : Answered op (calls_then start m.box.ticks m.time t) m.box.end between m'.box.end m'.outside
+  pub kept : Kept start m t m'
+  pub told : h ≡ finish m.box.silence (length t.bytes) m'.time m.box.quiet
+
+-- whole turns after which the line went on, the newest first
+pub data TurnsMade {O : Type 0} (op : Operating O) (start : Instant) (m : Moment O) : List Turn → Moment O → Type 0 where
+  none : TurnsMade op start m [] m
+  then : {ts : List Turn} {m' m'' : Moment O} (t : Turn) → TurnsMade op start m ts m' → TurnMade op start m' t None m'' → TurnsMade op start m (t ∷ ts) m''
+
+-- A turn in which a read, the clock or a write failed, with the error e; no call was made after that.
+pub data TurnFailed {O : Type 0} (op : Operating O) (start : Instant) (m : Moment O) (e : Error) (m' : Moment O) : Type 0 where
+  at_read : Unbroken op m.outside (Err e) m'.outside → m'.box ≡ m.box → TurnFailed op start m e m'
+  at_clock : (bytes : List ℕ) {between : O} → Unbroken op m.outside (Ok bytes) between → op between (tells (Err e)) m'.outside → m'.box ≡ m.box →
+      TurnFailed op start m e m'
+  at_reply : (t : Turn) {between : O} → Begun op m.outside t between →
+      Failed op (calls_then start m.box.ticks m.time t) e m.box.end between m'.box.end m'.outside → Kept start m t m' → TurnFailed op start m e m'
+
+-- Serving a line: the clock is asked when it starts, and turn comes after turn, each with all its calls, until one ends it or
+-- something fails. Time is 0 at the start.
+abbrev pub started : {O : Type 0} → Box → O → Moment O
+started b x = record { box = b; time = 0; outside = x }
+
+pub data Served {O : Type 0} (op : Operating O) (b : Box) (x : O) : Result Finish Error → Box → O → Type 0 where
+  unstarted : {e : Error} {y : O} → op x (tells (Err e)) y → Served op b x (Err e) b y
+  finished : (start : Instant) {z : O} {ts : List Turn} {m m' : Moment O} (t : Turn) {h : Finish} →
+      op x (tells (Ok start)) z → TurnsMade op start (started b z) ts m → TurnMade op start m t (Some h) m' → Served op b x (Ok h) m'.box m'.outside
+  failed : (start : Instant) {z : O} {ts : List Turn} {m m' : Moment O} {e : Error} →
+      op x (tells (Ok start)) z → TurnsMade op start (started b z) ts m → TurnFailed op start m e m' → Served op b x (Err e) m'.box m'.outside

@@ -1,24 +1,18 @@
 -- What words mean as arguments.
-use Rattle.std.specs.Prelude.{ℕ, ◌^◌, Bool, true, if◌then◌else◌, ◌&&◌, List, [], ◌∷◌, length, Some, None, Ok, Err, Option, Result, nat_lt, codes}
+use Rattle.std.specs.Prelude.{ℕ, ◌^◌, Bool, true, if◌then◌else◌, ◌&&◌, List, [], ◌∷◌, length, Some, None, Ok, Err, Option, Result, nat_lt}
 use Rattle.std.specs.Char.{is_digit}
-use Rattle.std.specs.Str.{bytes_eq}
+use Rattle.std.specs.Option.{ok_or}
+use Rattle.std.specs.Result.{result_ok}
 use Rattle.std.specs.Str.Parse.{digits_value}
-use Rattle.head.specs.Cases.{first_case}
+use Rattle.heads.specs.Any.{head_named}
+use Rattle.heads.specs.declared.any.HeadKind.{HeadKind}
 use Rattle.serial.specs.declared.arguments.Arguments.{Arguments}
 use Rattle.serial.specs.declared.arguments.ArgumentsError.{ArgumentsError}
 use Rattle.serial.specs.declared.arguments.ArgumentsError.TheVariants.{NoHead, NoSuchHead, NoTickLength, NoCountOfReads, TooMany}
-use Rattle.serial.specs.declared.arguments.HeadKind.{HeadKind}
-use Rattle.serial.specs.declared.arguments.HeadKind.TheVariants.{Block, Dome, StalledDome}
 use Rattle.serial.specs.Lengths.{is_length}
 
-abbrev pub head_named : List ℕ → Result HeadKind ArgumentsError
-head_named w =
-    first_case (
-      (bytes_eq w (codes "block"), Ok Block)
-      ∷ (bytes_eq w (codes "dome"), Ok Dome)
-      ∷ (bytes_eq w (codes "stalled"), Ok StalledDome)
-      ∷ []
-    ) (Err NoSuchHead)
+abbrev pub head_asked : List ℕ → Result HeadKind ArgumentsError
+head_asked w = ok_or (result_ok (head_named w)) NoSuchHead
 
 abbrev pub all_digits : List ℕ → Bool
 all_digits [] = true
@@ -53,7 +47,7 @@ some_reads (Ok n) = Ok (Some n)
 -- 20 milliseconds
 abbrev pub arguments : List (List ℕ) → Result Arguments ArgumentsError
 arguments [] = Err NoHead
-arguments (h ∷ []) = arguments_of (head_named h) (Ok 20) (Ok None)
-arguments (h ∷ t ∷ []) = arguments_of (head_named h) (length_of t) (Ok None)
-arguments (h ∷ t ∷ q ∷ []) = arguments_of (head_named h) (length_of t) (some_reads (reads_of q))
+arguments (h ∷ []) = arguments_of (head_asked h) (Ok 20) (Ok None)
+arguments (h ∷ t ∷ []) = arguments_of (head_asked h) (length_of t) (Ok None)
+arguments (h ∷ t ∷ q ∷ []) = arguments_of (head_asked h) (length_of t) (some_reads (reads_of q))
 arguments (h ∷ t ∷ q ∷ w ∷ ws) = Err TooMany

@@ -1,19 +1,11 @@
 //! The words with which the program is called: `HEAD [TICK_MS [QUIET]]`.
 
 ghost use Rattle.std.specs.Prelude.{◌≡◌, map};
-ghost use Rattle.serial.specs.Words.{arguments, head_named, length_of, reads_of, decimal};
+ghost use Rattle.serial.specs.Words.{arguments, head_asked, length_of, reads_of, decimal};
 
 use crate::ticks::TickLength;
-use std::error::Error;
-use std::fmt;
-
-/// The heads that a box can have.
-#[derive(Clone, Copy, Debug, PartialEq, Eq)]
-pub enum HeadKind {
-    Block,
-    Dome,
-    StalledDome,
-}
+use heads::HeadKind;
+use thiserror::Error;
 
 /// What the program was called with.
 #[derive(Clone, Copy, Debug, PartialEq, Eq)]
@@ -25,28 +17,19 @@ pub struct Arguments {
 }
 
 /// What is wrong with the words.
-#[derive(Clone, Copy, Debug, PartialEq, Eq)]
+#[derive(Clone, Copy, Debug, PartialEq, Eq, Error)]
 pub enum ArgumentsError {
+    #[error("a head is missing")]
     NoHead,
+    #[error("there is no such head")]
     NoSuchHead,
+    #[error("TICK_MS is a number from 1 to 60000")]
     NoTickLength,
+    #[error("QUIET is a number from 1 to 4294967295")]
     NoCountOfReads,
+    #[error("there is a word too many")]
     TooMany,
 }
-
-impl fmt::Display for ArgumentsError {
-    fn fmt<W: fmt::Write>(&self, f: &mut fmt::Formatter<W>) -> fmt::Result {
-        f.write_str(match self {
-            ArgumentsError::NoHead => "a head is missing",
-            ArgumentsError::NoSuchHead => "there is no such head",
-            ArgumentsError::NoTickLength => "TICK_MS is a number from 1 to 60000",
-            ArgumentsError::NoCountOfReads => "QUIET is a number from 1 to 4294967295",
-            ArgumentsError::TooMany => "there is a word too many",
-        })
-    }
-}
-
-impl Error for ArgumentsError {}
 
 // A decimal number of digits alone, if it fits 32 bits.
 fn number_of(word: &str) -> Option<u32>
@@ -59,14 +42,9 @@ fn number_of(word: &str) -> Option<u32>
 }
 
 fn head_of(word: &str) -> Result<HeadKind, ArgumentsError>
-    ensures { result ≡ head_named word.now }
+    ensures { result ≡ head_asked word.now }
 {
-    match word {
-        "block" => Ok(HeadKind::Block),
-        "dome" => Ok(HeadKind::Dome),
-        "stalled" => Ok(HeadKind::StalledDome),
-        _ => Err(ArgumentsError::NoSuchHead),
-    }
+    word.parse().map_err(|_| ArgumentsError::NoSuchHead)
 }
 
 fn tick_length_of(word: &str) -> Result<TickLength, ArgumentsError>

@@ -4,13 +4,19 @@
 #![tactic(auto)]
 
 mod arguments;
+mod outside;
 mod port;
+mod program;
 mod silence;
+mod streams;
 mod theorems;
 mod ticks;
 
-pub use arguments::{Arguments, ArgumentsError, HeadKind};
+pub use arguments::{Arguments, ArgumentsError};
+pub use outside::Outside;
 pub use port::Port;
-pub use silence::{Hearing, Silence};
+pub use program::{Failure, run, run_and_tell};
+pub use silence::{Finish, Silence};
+pub use streams::Streams;
 pub use theorems::reads_owe_together;
 pub use ticks::{MOST_AT_ONCE, TickLength, Ticks};

@@ -1,73 +1,82 @@
 //! A box at its line: what it does after each read, whatever the line brings and whenever it is read.
 
-ghost use Rattle.std.specs.Prelude.{◌≡◌, ◌-◌, ◌/◌, ◌^◌, ◌<◌, min, false, [], ◌∷◌, length, map, replicate, OnOk, OnErr, IfOk, IfErr, IsTrue, ◌↔◌};
-ghost use Rattle.std.specs.Io.KnownBytes.{Appends};
+ghost use Rattle.std.specs.Prelude.{◌≡◌, ◌-◌, ◌/◌, ◌^◌, ◌<◌, Ok, Err, min, false, [], ◌∷◌, length, map, replicate, OnOk, IfOk, IfErr, IsTrue, ◌↔◌};
+ghost use Rattle.std.specs.Io.{ReadsAtMost};
 ghost use Rattle.std.specs.IoError.{error_kind};
 ghost use Rattle.std.specs.Time.{instant_nanos};
 ghost use Rattle.end.specs.States.{meaning, state};
 ghost use Rattle.end.specs.Steps.{Made};
 ghost use Rattle.end.specs.declared.call.Call.TheVariants.{Byte, Tick};
-ghost use Rattle.serial.specs.Silences.{heard, hearing};
+ghost use Rattle.serial.specs.Outside.{Operated, given, writes};
+ghost use Rattle.serial.specs.Silences.{finish, heard};
 ghost use Rattle.serial.specs.Ticks.{owed, paid_at};
-ghost use Rattle.serial.specs.Turns.{Answered, Failed, Served, Stopped, box, calls_in};
+ghost use Rattle.serial.specs.Turns.{Answered, Failed, Served, Unbroken, box, calls_in, reply as reply_of};
 
-use crate::silence::{Hearing, Silence};
+use crate::outside::Outside;
+use crate::silence::{Finish, Silence};
 use crate::ticks::{TickLength, Ticks};
 use end::{End, ROOM, bytes_sent};
 use head::{Head, Look};
 use std::io;
-use std::io::{ErrorKind, Read, Write};
-use std::time::{Clock, Instant};
+use std::io::ErrorKind;
+use std::time::Instant;
 
 /// The most bytes that a read asks for.
 pub const READ: usize = 256;
 
-// Writes what a call sent.
-fn reply<W: Write>(sent: &[u8], line: &mut W) -> io::Result<()>
-    ensures written { OnOk result (Appends (W.contents line.old) (W.contents line.new) sent.now) }
-    ensures lost { OnErr result (0 < length sent.now) }
+// Writes what a call sent, if it sent anything.
+fn reply<O: Outside>(sent: &[u8], outside: &mut O) -> io::Result<()>
+    ensures written { OnOk result (Operated O.operated outside.old (reply_of sent.now (Ok tt)) outside.new) }
+    ensures lost { IfErr result (λ e. (0 < length sent.now)
+        × Operated O.operated outside.old (writes sent.now (Err e) ∷ []) outside.new) }
 {
     if sent.is_empty() {
         return Ok(());
     }
-    line.write_all(sent)?;
-    line.flush()
+    outside.write(sent)
 }
-
-fn answer_byte<H: Head, W: Write>(end: &mut End<H>, byte: u8, line: &mut W) -> io::Result<()>
-    ensures answered { OnOk result (Answered (Byte byte ∷ []) (state end.old) (state end.new) (W.contents line.old) (W.contents line.new)) }
-    ensures failed { OnErr result (Failed (Byte byte ∷ []) (state end.old) (state end.new)) }
+fn answer_byte<H: Head, O: Outside>(end: &mut End<H>, byte: u8, outside: &mut O) -> io::Result<()>
+    ensures answered { OnOk result (Answered O.operated (Byte byte ∷ [])
+        (state end.old) outside.old (state end.new) outside.new) }
+    ensures failed { IfErr result (λ e. Failed O.operated (Byte byte ∷ []) e
+        (state end.old) outside.old (state end.new) outside.new) }
 {
     let mut buffer = [0; ROOM];
     let count = bytes_sent(end.byte(byte, &mut buffer));
-    reply(&buffer[..count], line)
+    reply(&buffer[..count], outside)
 }
 
-fn answer_tick<H: Head, W: Write>(end: &mut End<H>, line: &mut W) -> io::Result<()>
-    ensures answered { OnOk result (Answered (Tick ∷ []) (state end.old) (state end.new) (W.contents line.old) (W.contents line.new)) }
-    ensures failed { OnErr result (Failed (Tick ∷ []) (state end.old) (state end.new)) }
+fn answer_tick<H: Head, O: Outside>(end: &mut End<H>, outside: &mut O) -> io::Result<()>
+    ensures answered { OnOk result (Answered O.operated (Tick ∷ [])
+        (state end.old) outside.old (state end.new) outside.new) }
+    ensures failed { IfErr result (λ e. Failed O.operated (Tick ∷ []) e
+        (state end.old) outside.old (state end.new) outside.new) }
 {
     let mut buffer = [0; ROOM];
     let count = bytes_sent(end.tick(&mut buffer));
-    reply(&buffer[..count], line)
+    reply(&buffer[..count], outside)
 }
 
-fn answer_bytes<H: Head, W: Write>(end: &mut End<H>, bytes: &[u8], line: &mut W) -> io::Result<()>
-    ensures answered { OnOk result (Answered (map Byte bytes.now) (state end.old) (state end.new) (W.contents line.old) (W.contents line.new)) }
-    ensures failed { OnErr result (Failed (map Byte bytes.now) (state end.old) (state end.new)) }
+fn answer_bytes<H: Head, O: Outside>(end: &mut End<H>, bytes: &[u8], outside: &mut O) -> io::Result<()>
+    ensures answered { OnOk result (Answered O.operated (map Byte bytes.now)
+        (state end.old) outside.old (state end.new) outside.new) }
+    ensures failed { IfErr result (λ e. Failed O.operated (map Byte bytes.now) e
+        (state end.old) outside.old (state end.new) outside.new) }
 {
     for byte in bytes {
-        answer_byte(end, *byte, line)?;
+        answer_byte(end, *byte, outside)?;
     }
     Ok(())
 }
 
-fn answer_ticks<H: Head, W: Write>(end: &mut End<H>, ticks: u32, line: &mut W) -> io::Result<()>
-    ensures answered { OnOk result (Answered (replicate ticks Tick) (state end.old) (state end.new) (W.contents line.old) (W.contents line.new)) }
-    ensures failed { OnErr result (Failed (replicate ticks Tick) (state end.old) (state end.new)) }
+fn answer_ticks<H: Head, O: Outside>(end: &mut End<H>, ticks: u32, outside: &mut O) -> io::Result<()>
+    ensures answered { OnOk result (Answered O.operated (replicate ticks Tick)
+        (state end.old) outside.old (state end.new) outside.new) }
+    ensures failed { IfErr result (λ e. Failed O.operated (replicate ticks Tick) e
+        (state end.old) outside.old (state end.new) outside.new) }
 {
     for _ in 0..ticks {
-        answer_tick(end, line)?;
+        answer_tick(end, outside)?;
     }
     Ok(())
 }
@@ -78,6 +87,20 @@ fn is_interrupted(read: &io::Result<usize>) -> bool
     ensures signal { IfErr read.now (λ e. IsTrue result ↔ (error_kind e ≡ ErrorKind.Interrupted)) }
 {
     matches!(read, Err(error) if error.kind() == ErrorKind::Interrupted)
+}
+
+// Reads, and again where a signal broke the read off.
+fn read<O: Outside>(outside: &mut O, buffer: &mut [u8]) -> io::Result<usize>
+    ensures within { ReadsAtMost result buffer.new }
+    ensures unbroken { Unbroken O.operated outside.old (given result buffer.new) outside.new }
+    ensures fewer { OnOk result ((O.known outside.new).left < (O.known outside.old).left) }
+{
+    loop {
+        let read = outside.read(buffer);
+        if !is_interrupted(&read) {
+            return read;
+        }
+    }
 }
 
 // Whole milliseconds from the start.
@@ -118,50 +141,39 @@ impl<H: Head> Port<H> {
 
     /// A turn, after a read of some bytes or of none: each byte in order, then the ticks owed, so that a busy line
     /// does not starve the head and a quiet one gets its completions. What a call sends is written before the next
-    /// is made. It tells whether the line goes on.
-    pub fn turn<W: Write>(&mut self, bytes: &[u8], now: u64, line: &mut W) -> io::Result<Hearing>
-        ensures answered { OnOk result (Answered (calls_in bytes.now (owed self.old.ticks now)) (state self.old.end) (state self.new.end) (W.contents line.old) (W.contents line.new)) }
-        ensures failed { OnErr result (Failed (calls_in bytes.now (owed self.old.ticks now)) (state self.old.end) (state self.new.end)) }
+    /// is made. It tells what ends serving, if anything does.
+    pub fn turn<O: Outside>(&mut self, bytes: &[u8], now: u64, outside: &mut O) -> io::Result<Option<Finish>>
+        ensures answered { OnOk result (Answered O.operated (calls_in bytes.now (owed self.old.ticks now))
+            (state self.old.end) outside.old (state self.new.end) outside.new) }
+        ensures failed { IfErr result (λ e. Failed O.operated (calls_in bytes.now (owed self.old.ticks now)) e
+            (state self.old.end) outside.old (state self.new.end) outside.new) }
         ensures ticks { self.new.ticks ≡ paid_at self.old.ticks now }
         ensures silence { self.new.silence ≡ heard self.old.silence (length bytes.now) now }
         ensures quiet { self.new.quiet ≡ self.old.quiet }
-        ensures told { IfOk result (λ h. h ≡ hearing self.old.silence (length bytes.now) now self.old.quiet) }
+        ensures told { IfOk result (λ h. h ≡ finish self.old.silence (length bytes.now) now self.old.quiet) }
     {
-        let hearing = self.silence.heard(bytes.len(), now, self.quiet);
+        let finish = self.silence.heard(bytes.len(), now, self.quiet);
         let ticks = self.ticks.owed(now);
-        answer_bytes(&mut self.end, bytes, line)?;
-        answer_ticks(&mut self.end, ticks, line)?;
-        Ok(hearing)
+        answer_bytes(&mut self.end, bytes, outside)?;
+        answer_ticks(&mut self.end, ticks, outside)?;
+        Ok(finish)
     }
-
     /// Turn after turn, each after a read and at the time that the clock then tells, until the line is quiet or has
-    /// gone: what ended it, or the first error. Time counts from the call. A read asks for a byte at least, so that
-    /// one of no bytes is a quiet one.
-    pub fn serve<R: Read, W: Write, C: Clock>(
-        &mut self,
-        input: &mut R,
-        line: &mut W,
-        clock: &C,
-    ) -> io::Result<Hearing>
-        ensures served { IfOk result (λ h. Served (box self.old) (box self.new) h (R.remaining input.old) (R.remaining input.new) (W.contents line.old) (W.contents line.new)) }
-        ensures stopped { OnErr result (Stopped (state self.old.end) (state self.new.end)) }
+    /// gone: what ended it, or the error of the read, the write or the clock that failed. Time counts from the call. A
+    /// read asks for a byte at least, so that one of no bytes is a quiet one.
+    pub fn serve<O: Outside>(&mut self, outside: &mut O) -> io::Result<Finish>
+        ensures served { Served O.operated (box self.old) outside.old result (box self.new) outside.new }
         ensures asks { 0 < READ }
     {
-        let start = Instant::now(clock)?;
+        let start = outside.now()?;
+        let mut time = 0;
         let mut buffer = [0; READ];
-        for _ in 0..u64::MAX {
-            let read = input.read(&mut buffer);
-            if is_interrupted(&read) {
-                continue;
-            }
-            let count = read?;
-            let now = milliseconds(start, Instant::now(clock)?);
-            let hearing = self.turn(&buffer[..count], now, line)?;
-            match hearing {
-                Hearing::On => {}
-                Hearing::Quiet | Hearing::Gone => return Ok(hearing),
+        loop {
+            let count = read(outside, &mut buffer)?;
+            time = time.max(milliseconds(start, outside.now()?));
+            if let Some(finish) = self.turn(&buffer[..count], time, outside)? {
+                return Ok(finish);
             }
         }
-        Ok(Hearing::On)
     }
 }

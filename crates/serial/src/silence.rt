@@ -1,13 +1,11 @@
 //! How long nothing has come from the line, and whether the line has gone.
 
 ghost use Rattle.std.specs.Prelude.{◌≡◌};
-ghost use Rattle.serial.specs.Silences.{heard, hearing};
+ghost use Rattle.serial.specs.Silences.{heard, finish};
 
-/// What a read tells of the line.
+/// What ends the serving of a line.
 #[derive(Clone, Copy, Debug, PartialEq, Eq)]
-pub enum Hearing {
-    /// It goes on.
-    On,
+pub enum Finish {
     /// So many reads in a row were quiet as the program was told to wait for.
     Quiet,
     /// Reads are quiet at once, with no time-out: the terminal was hung up, or it is the end of a file.
@@ -29,17 +27,18 @@ pub struct Silence {
 }
 
 impl Silence {
-    /// Counts a read of so many bytes, and tells of the line. It is quiet after so many quiet reads as are given.
-    pub fn heard(&mut self, count: usize, now: u64, quiet: Option<u32>) -> Hearing
+    /// Counts a read of so many bytes, and tells whether serving ends with it; none while the line goes on. It is quiet
+    /// after so many quiet reads as are given.
+    pub fn heard(&mut self, count: usize, now: u64, quiet: Option<u32>) -> Option<Finish>
         ensures kept { self.new ≡ heard self.old count now }
-        ensures told { result ≡ hearing self.old count now quiet }
+        ensures told { result ≡ finish self.old count now quiet }
     {
         if count > 0 {
             *self = Silence {
                 reads: 0,
                 since: now,
             };
-            return Hearing::On;
+            return None;
         }
         self.reads = self.reads.saturating_add(1);
         let whole = self.reads % QUIET_READS == 0;
@@ -48,11 +47,11 @@ impl Silence {
             self.since = now;
         }
         if gone {
-            return Hearing::Gone;
+            return Some(Finish::Gone);
         }
         match quiet {
-            Some(reads) if self.reads >= u64::from(reads) => Hearing::Quiet,
-            _ => Hearing::On,
+            Some(reads) if self.reads >= u64::from(reads) => Some(Finish::Quiet),
+            _ => None,
         }
     }
 }

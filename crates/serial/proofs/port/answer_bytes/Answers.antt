@@ -1,9 +1,9 @@
 use Rattle.std.proofs.Common.{sym}
-use Rattle.serial.proofs.Turned.{none_answered, nothing_appended, answered_both, failed_behind, failed_before, on_err, answered_as, failed_as, more_bytes, bytes_parted}
+use Rattle.serial.proofs.Turned.{none_answered, answered_both, failed_behind, failed_before, handed_on, answered_as, failed_as, more_bytes, bytes_parted}
 use Rattle.serial.proofs.port.answer_bytes.Goals as goal
 
 pub loop-byte-init : goal.loop-byte-init
-loop-byte-init g c = none_answered (nothing_appended _)
+loop-byte-init g c = none_answered
 
 pub loop-byte-preserved : goal.loop-byte-preserved
 loop-byte-preserved g c =
@@ -12,6 +12,6 @@ loop-byte-preserved g c =
 
 pub returns-in_err-answer_byte-clause-failed : goal.returns-in_err-answer_byte-clause-failed
 returns-in_err-answer_byte-clause-failed g c =
-    on_err c.from_residual.result
+    handed_on c.from_residual.result _ c.from_residual.ensures.1
     (failed_as (bytes_parted c.args.bytes.now c.loop-byte.byte-index c.loop-byte-test.true)
     (failed_before _ (failed_behind c.loop-byte.invariant c.in_err-answer_byte.ensures.failed)))

@@ -6,4 +6,4 @@ use Rattle.serial.proofs.port.answer_bytes.Given as goal
 
 abbrev pub invariant-loop-byte : goal.invariant-loop-byte
 invariant-loop-byte g l =
-    Answered (map Byte (take l.byte-index l.bytes)) (state l.initial.end) (state l.end) (g.W.Write.contents l.initial.line) (g.W.Write.contents l.line)
+    Answered g.O.Outside.operated (map Byte (take l.byte-index l.bytes)) (state l.initial.end) l.initial.outside (state l.end) l.outside

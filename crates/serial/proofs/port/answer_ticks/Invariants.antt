@@ -6,4 +6,4 @@ use Rattle.serial.proofs.port.answer_ticks.Given as goal
 
 abbrev pub invariant-loop : goal.invariant-loop
 invariant-loop g l =
-    Answered (replicate l.counter Tick) (state l.initial.end) (state l.end) (g.W.Write.contents l.initial.line) (g.W.Write.contents l.line)
+    Answered g.O.Outside.operated (replicate l.counter Tick) (state l.initial.end) l.initial.outside (state l.end) l.outside

@@ -1,33 +1,55 @@
-use Rattle.std.proofs.Common.{arith}
-use Rattle.serial.proofs.Turned.{on_err, none_made, none_served, served_kept, served_more, stopped_in, read_some, broken_off, went_on}
+use Rattle.std.proofs.Common.{◌≡◌, arith, rules, refl}
+use Rattle.serial.specs.Turns.{Served, unstarted, at_read, at_clock, box, time_then}
+use Rattle.serial.proofs.Reading.{no_more_by}
+use Rattle.serial.proofs.Serving.{begins, err_told, turn_made, turn_lost, goes_on, ends, fails, no_more_then}
 use Rattle.serial.proofs.port.Port.serve.Goals as goal
 
-pub returns-in_err-start-clause-stopped : goal.returns-in_err-start-clause-stopped
-returns-in_err-start-clause-stopped g c = on_err c.from_residual.result none_made
+pub returns-in_err-start-clause-served : goal.returns-in_err-start-clause-served
+returns-in_err-start-clause-served g c =
+    err_told (λ r. Served g.O.Outside.operated (box c.args.self.now) c.args.outside.now r (box c.args.self.now) c.now.new.self) c.from_residual.result
+    c.from_residual.ensures.1 (unstarted c.in_err-start.ensures)
 
-pub loop-init : goal.loop-init
-loop-init g c = none_served
+pub loop-count-init : goal.loop-count-init
+loop-count-init g c = begins c.in_ok-start.ensures
 
-pub loop-preserved-then-is_interrupted : goal.loop-preserved-then-is_interrupted
-loop-preserved-then-is_interrupted g c =
-    served_kept c.loop.invariant
-    (broken_off _ _ c.read-read.result c.read-read.new.buf c.is_interrupted.result c.is_interrupted.ensures.none c.if-is_interrupted.true c.read-read.ensures.bytes)
+pub returns-in_err-count-clause-served : goal.returns-in_err-count-clause-served
+returns-in_err-count-clause-served g c =
+    err_told (λ r. Served g.O.Outside.operated (box c.args.self.now) c.args.outside.now r (box c.loop-count.self) c.read.new.outside)
+    c.from_residual-in_err-count.result c.from_residual-in_err-count.ensures.1
+    (fails {m' = record { box = box c.loop-count.self; time = 0; outside = c.read.new.outside }} c.loop-count.invariant (at_read c.in_err-count.ensures.unbroken refl))
 
-pub returns-in_err-hearing-clause-stopped : goal.returns-in_err-hearing-clause-stopped
-returns-in_err-hearing-clause-stopped g c = on_err c.from_residual-in_err-hearing.result (stopped_in c.loop.invariant c.in_err-hearing.ensures.failed)
+pub returns-in_err-now-clause-served : goal.returns-in_err-now-clause-served
+returns-in_err-now-clause-served g c =
+    err_told (λ r. Served g.O.Outside.operated (box c.args.self.now) c.args.outside.now r (box c.loop-count.self) c.now-in-loop-count.new.self)
+    c.from_residual-in_err-now.result c.from_residual-in_err-now.ensures.1
+    (fails {m' = record { box = box c.loop-count.self; time = 0; outside = c.now-in-loop-count.new.self }} c.loop-count.invariant
+    (at_clock _ c.in_ok-count.ensures.unbroken c.in_err-now.ensures refl))
 
-pub returns-in-Quiet : goal.returns-in-Quiet
-returns-in-Quiet g c =
-    let d = c.in_ok-hearing.ensures in
-    record {
-      served = served_more c.loop.invariant (read_some _ _ _ c.read-read.new.buf _ c.in_ok-count.was c.read-read.ensures.bytes)
-          (record { answered = d.answered; ticks = d.ticks; silence = d.silence; quiet = d.quiet; told = d.told });
-      stopped = tt;
-      asks = omega arith;
-    }
+pub returns-in_err-finish-clause-served : goal.returns-in_err-finish-clause-served
+returns-in_err-finish-clause-served g c =
+    let e = c.turn.ensures in
+    let time : c.max-time.result ≡ time_then c.in_ok-start.start c.loop-count.time c.in_ok-now.field-0 = search rules in
+    err_told (λ r. Served g.O.Outside.operated (box c.args.self.now) c.args.outside.now r (box c.turn.new.self) c.turn.new.outside)
+    c.from_residual-in_err-finish.result c.from_residual-in_err-finish.ensures.1
+    (fails c.loop-count.invariant (turn_lost c.in_ok-count.ensures.unbroken c.in_ok-now.ensures time c.in_err-finish.ensures.failed e.ticks e.silence e.quiet))
 
-pub loop-preserved : goal.loop-preserved
-loop-preserved g c =
-    let d = c.in_ok-hearing.ensures in
-    served_more c.loop.invariant (read_some _ _ _ c.read-read.new.buf _ c.in_ok-count.was c.read-read.ensures.bytes)
-    (record { answered = d.answered; ticks = d.ticks; silence = d.silence; quiet = d.quiet; told = went_on c.in-On.is d.told })
+pub returns-in-Some-clause-served : goal.returns-in-Some-clause-served
+returns-in-Some-clause-served g c =
+    let e = c.in_ok-finish.ensures in
+    let time : c.max-time.result ≡ time_then c.in_ok-start.start c.loop-count.time c.in_ok-now.field-0 = search rules in
+    ends c.loop-count.invariant (turn_made c.in_ok-count.ensures.unbroken c.in_ok-now.ensures time e.answered e.ticks e.silence e.quiet e.told) c.in-Some.is
+
+pub loop-count-preserved : goal.loop-count-preserved
+loop-count-preserved g c =
+    let e = c.in_ok-finish.ensures in
+    let time : c.max-time.result ≡ time_then c.in_ok-start.start c.loop-count.time c.in_ok-now.field-0 = search rules in
+    goes_on c.loop-count.invariant (turn_made c.in_ok-count.ensures.unbroken c.in_ok-now.ensures time e.answered e.ticks e.silence e.quiet e.told) c.in_default.is
+
+pub loop-count-smaller : goal.loop-count-smaller
+loop-count-smaller g c =
+    let known = g.O.Outside.known in
+    let means = g.met.O.Outside.means in
+    let after_read = c.in_ok-count.ensures.fewer in
+    let after_clock = no_more_by known means c.in_ok-now.ensures in
+    let after_turn = no_more_then known means c.in_ok-finish.ensures.answered.written in
+    omega arith

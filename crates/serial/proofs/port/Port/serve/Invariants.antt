@@ -1,8 +1,10 @@
-use Rattle.serial.specs.declared.silence.Hearing.TheVariants.{On}
-use Rattle.serial.specs.Turns.{Served, box}
+use Rattle.serial.specs.Turns.{box}
+use Rattle.serial.proofs.Serving.{Goes}
 use Rattle.serial.proofs.port.Port.serve.Given as goal
 
-abbrev pub invariant-loop : goal.invariant-loop
-invariant-loop g l =
-    Served (box l.initial.self) (box l.self) On (g.R.Read.remaining l.initial.input) (g.R.Read.remaining l.input) (g.W.Write.contents l.initial.line)
-    (g.W.Write.contents l.line)
+abbrev pub invariant-loop-count : goal.invariant-loop-count
+invariant-loop-count g l =
+    Goes g.O.Outside.operated l.start (box l.initial.self) l.fn.outside (record { box = box l.self; time = l.time; outside = l.outside })
+
+abbrev pub decreases-loop-count : goal.decreases-loop-count
+decreases-loop-count g l = (g.O.Outside.known l.outside).left

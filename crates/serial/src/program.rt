@@ -1,0 +1,60 @@
+//! The box as a program: the words that it is called with, and what is said of what ended it.
+
+use crate::arguments::{Arguments, ArgumentsError};
+use crate::outside::Outside;
+use crate::port::Port;
+use crate::silence::Finish;
+use heads::AnyHead;
+use std::env::Env;
+use std::process::ExitCode;
+use std::{env, io};
+use thiserror::Error;
+
+/// How to call the program.
+const USAGE: &str = "\
+usage: r3 HEAD [TICK_MS [QUIET]]
+  HEAD     block, dome or stalled (a dome that is stalled)
+  TICK_MS  how long a tick is, in milliseconds: 1 to 60000, or 20 if it is left out
+  QUIET    after how many quiet reads in a row to end; never, if it is left out";
+
+/// Why it ends with status 1.
+#[derive(Debug, Drop, Error)]
+pub enum Failure {
+    #[error("{0}\n{usage}", usage = USAGE)]
+    Arguments(#[from] ArgumentsError),
+    #[error(transparent)]
+    Io(#[from] io::Error),
+    #[error("the line has gone: reads end at once, with nothing read")]
+    LineGone,
+}
+
+// What the words behind the program's name say.
+fn arguments<R: Env + AllocGlobal>(rt: &R) -> io::Result<Result<Arguments, ArgumentsError>> {
+    let heap = rt.alloc();
+    let words: Vec<String> = env::args(rt)?.skip(1).collect(heap)?;
+    let texts: Vec<&str> = words.iter().map(|word| word.as_str()).collect(heap)?;
+    Ok(Arguments::parse(texts.as_slice()))
+}
+
+/// Serves with a head as the words of the program say, until the line is quiet or something fails.
+pub fn run<R: Env + AllocGlobal, O: Outside>(rt: &R, outside: &mut O) -> Result<(), Failure> {
+    let arguments = arguments(rt)??;
+    let head = AnyHead::new(arguments.head);
+    let mut port = Port::new(head, arguments.tick, arguments.quiet);
+    match port.serve(outside)? {
+        Finish::Quiet => Ok(()),
+        Finish::Gone => Err(Failure::LineGone),
+    }
+}
+
+/// Runs it, tells a failure on the standard error, and gives the status: 1 for a failure, 0 else.
+pub fn run_and_tell<R: Env + AllocGlobal + Eprint, O: Outside>(rt: &R, outside: &mut O) -> ExitCode {
+    match run(rt, outside) {
+        Ok(()) => ExitCode::SUCCESS,
+        Err(failure) => {
+            // Where even that cannot be written, the status tells.
+            let _ = eprintln!(rt; "r3: {failure}");
+            ExitCode::FAILURE
+        }
+    }
+}
