@@ -77,7 +77,7 @@ impl<H: Head> End<H> {
     }
 
     // An admitted command.
-    #[inline(never)]
+    #[inline(always)]
     fn command(&mut self, command: &Command, out: &mut [u8]) -> usize
         requires { 16 ≤ length out.old }
         ensures { CameOf self.old
@@ -111,7 +111,7 @@ impl<H: Head> End<H> {
     }
 
     // A body that the rows read, or say what is wrong with; of that there is a reply.
-    #[inline(always)]
+    #[inline(never)]
     fn request(&mut self, body: &[u8], out: &mut [u8]) -> Result<usize, Fault>
         requires { 16 ≤ length out.old }
         ensures { CameOf self.old

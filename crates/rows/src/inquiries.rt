@@ -21,6 +21,7 @@ impl OperandForm for NoOperands {
 
     ghost makes = { inquiry_asked };
 
+    #[inline(always)]
     fn read(&self, setting: Setting, operands: &[u8]) -> Option<Inquiry> {
         if operands.is_empty() {
             Inquiry::of(setting)

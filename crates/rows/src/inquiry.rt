@@ -28,6 +28,7 @@ pub struct Inquiry {
 
 impl Form {
     /// The form in which a setting is answered, if it can be asked for.
+    #[inline(always)]
     pub fn of(setting: Setting) -> Option<Form>
         ensures { result ≡ form_of setting }
     {
@@ -56,6 +57,7 @@ impl Inquiry {
     ghost use Rattle.rows.specs.Inquiries.{inquiry_of};
 
     /// The inquiry for a setting, if it can be asked for.
+    #[inline(always)]
     pub fn of(setting: Setting) -> Option<Inquiry>
         ensures { result ≡ inquiry_of setting }
     {

@@ -53,6 +53,7 @@ impl<F: OperandForm> Row for TableRow<F> {
         self.codes.setting(body.code).is_some() && body.category == self.category
     }
 
+    #[inline]
     fn read(&self, body: &Body<'_>) -> Option<F::Meaning> {
         let setting = self.codes.setting(body.code)?;
         self.form.read(setting, body.operands)

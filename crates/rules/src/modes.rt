@@ -48,6 +48,7 @@ impl Modes {
 
     // Whether the modes forbid a command of this row. Rows go by number, since the rules of the modes do: with freeze
     // on, they speak of rows 6 to 13 at once.
+    #[inline(always)]
     fn forbid(self, row: Setting, order: &Order) -> bool
         ensures { result ≡ forbids self (number row) order.now }
     {
