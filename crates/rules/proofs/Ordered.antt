@@ -43,7 +43,7 @@ fifth_rule (AddressSet w) p o e t h = absurd (omega arith)
 fifth_rule ClearedForAll p o e t h = absurd (omega arith)
 fifth_rule SentOn p o e t h = absurd (omega arith)
 fifth_rule Cleared p o e t h = absurd (not_clear (body_of p) o h t)
-fifth_rule (Cancelled y) p o e t h = absurd (not_cancel (body_of p) o (0x20 + y) h t)
+fifth_rule (Cancelled y) p o e t h = absurd (not_cancel (body_of p) o (0x20 + y) h t.1)
 fifth_rule Requested p o e t h = refl
 
 left : (a : ℕ) (p : List ℕ) (o : Order) → 1 ≤ a → a ≤ 7 → header p ≡ 0x80 + a → OrderedByOne (body_of p) o → rule_of a p ≡ Requested

@@ -1,10 +1,10 @@
 -- The rule that a packet meets is the first that fits.
-use Rattle.std.proofs.Common.{◌≡◌, ◌≢◌, ℕ, suc, ◌+◌, ◌-◌, ◌≤◌, Bool, true, false, cond, not, ◌&&◌, eqb, leb, List, [], ◌∷◌, ◌++◌, length, get_or, sym, refl, ◌∙◌, subst, inl, inr, append_assoc, arith}
+use Rattle.std.proofs.Common.{◌≡◌, ◌≢◌, ℕ, suc, ◌+◌, ◌-◌, ◌≤◌, Bool, true, false, cond, not, ◌&&◌, eqb, leb, List, [], ◌∷◌, ◌++◌, length, get_or, sym, refl, ap, ◌∙◌, subst, inl, inr, append_assoc, arith}
 use Rattle.std.proofs.lemmas.List.{get_or_at, length_push}
 use Rattle.std.proofs.lemmas.Bool.{eqb-true, eqb-false, eq-eqb, ne_eqb, leb-true, le-leb, and_parts, or_parts, or_cases, not-true, not-false}
 use Rattle.rules.specs.declared.ring.Rule.{Rule}
 use Rattle.rules.specs.declared.ring.Rule.TheVariants.{TakenOff, AddressSet, ClearedForAll, SentOn, Cleared, Cancelled, Requested}
-use Rattle.rules.specs.Ring.{header, sender, stand_at, are, from_here, offers_address, clears_all, not_for_here, rule_of, RuleFits, from_this_end, sets_an_address, clears_every_end, without_address, with_other_header, with_this_header, Meets}
+use Rattle.rules.specs.Ring.{header, sender, stand_at, are, from_here, offers_address, clears_all, not_for_here, rule_of, RuleFits, from_this_end, sets_an_address, clears_every_end, without_address, with_other_header, with_this_header, Tells, Meets, rule_number, EachPacketMeetsOneRule}
 use Rattle.wire.specs.Packets.{body_of}
 
 -- The two ways to say that bytes are the same.
@@ -132,13 +132,14 @@ module _ (a : ℕ) (p : List ℕ) where
   abbrev cancels : Bool
   cancels = are (body_of p) (y ∷ []) && leb 0x20 y && leb y 0x2f
 
-  cancelled : cancels ≡ true → body_of p ≡ (0x20 + (y - 0x20)) ∷ []
+  cancelled : cancels ≡ true → (y - 0x20 ≤ 15) × (body_of p ≡ (0x20 + (y - 0x20)) ∷ [])
   cancelled h =
       let q = and_parts (are (body_of p) (y ∷ []) && leb 0x20 y) (leb y 0x2f) h in
       let r = and_parts (are (body_of p) (y ∷ [])) (leb 0x20 y) q.0 in
       let l = leb-true 0x20 y r.1 in
+      let m = leb-true y 0x2f q.1 in
       let e : 0x20 + (y - 0x20) ≡ y = omega arith in
-      rw e (are_true (body_of p) (y ∷ []) r.0)
+      (omega arith, rw e (are_true (body_of p) (y ∷ []) r.0))
 
   not_cancelled : cancels ≡ false → (n : ℕ) → n ≤ 15 → body_of p ≢ (0x20 + n) ∷ []
   not_cancelled h n l e =
@@ -182,3 +183,34 @@ met a p =
 
 pub met_by : (a : ℕ) (p : List ℕ) (r : Rule) → r ≡ rule_of a p → Meets a p r
 met_by a p r e = rw e (met a p)
+
+-- what two rules of one number tell of a packet is the same
+by_number : (p : List ℕ) (r q : Rule) → rule_number r ≡ rule_number q → Tells p r → Tells p q → r ≡ q
+by_number p TakenOff TakenOff e t u = refl
+by_number p (AddressSet v₁) (AddressSet v₂) e t u = ap AddressSet (ap (λ (z : List ℕ). get_or z 2 0) (sym t ∙ u))
+by_number p ClearedForAll ClearedForAll e t u = refl
+by_number p SentOn SentOn e t u = refl
+by_number p Cleared Cleared e t u = refl
+by_number p Cleared (Cancelled z) e t u = let k : 0x01 ∷ 0x00 ∷ 0x01 ∷ [] ≡ (0x20 + z) ∷ [] = sym t ∙ u.1 in cc
+by_number p Cleared Requested e t u = absurd (u.0 t)
+by_number p (Cancelled y) Cleared e t u = let k : (0x20 + y) ∷ [] ≡ 0x01 ∷ 0x00 ∷ 0x01 ∷ [] = sym t.1 ∙ u in cc
+by_number p (Cancelled y) (Cancelled z) e t u =
+    let k : 0x20 + y ≡ 0x20 + z = ap (λ (x : List ℕ). get_or x 0 0) (sym t.1 ∙ u.1) in
+    let n : y ≡ z = omega arith in
+    ap Cancelled n
+by_number p (Cancelled y) Requested e t u = absurd (u.1 y t.0 t.1)
+by_number p Requested Cleared e t u = absurd (t.0 u)
+by_number p Requested (Cancelled z) e t u = absurd (t.1 z u.0 u.1)
+by_number p Requested Requested e t u = refl
+by_number p r q e t u = absurd (omega arith)
+
+pub each_packet_meets_one_rule : EachPacketMeetsOneRule
+each_packet_meets_one_rule a p r = (
+  (λ m.
+      let f = met a p in
+      let l = m.first (rule_number (rule_of a p)) f.fits in
+      let k = f.first (rule_number r) m.fits in
+      let n : rule_number r ≡ rule_number (rule_of a p) = omega arith in
+      by_number p r (rule_of a p) n m.tells f.tells),
+  met_by a p r,
+)

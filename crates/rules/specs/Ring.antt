@@ -1,5 +1,5 @@
 -- The rules of the ring: what becomes of a whole packet p at an end with address a, 0 for none yet.
-use Rattle.std.specs.Prelude.{◌≡◌, ◌≢◌, ℕ, suc, ◌+◌, ◌-◌, ◌/◌, ◌%◌, ◌≤◌, Bool, true, false, if◌then◌else◌, not, ◌&&◌, ◌||◌, List, [], ◌∷◌, length, Some, None, Option, ◌==◌, nat_le, slice_index, slice_index_or}
+use Rattle.std.specs.Prelude.{◌≡◌, ◌≢◌, ◌↔◌, ℕ, suc, ◌+◌, ◌-◌, ◌/◌, ◌%◌, ◌≤◌, Bool, true, false, if◌then◌else◌, not, ◌&&◌, ◌||◌, List, [], ◌∷◌, length, Some, None, Option, ◌==◌, nat_le, slice_index, slice_index_or}
 use Rattle.head.specs.Cases.{first_case}
 use Rattle.rules.specs.declared.ring.Rule.{Rule}
 use Rattle.rules.specs.declared.ring.Rule.TheVariants.{TakenOff, AddressSet, ClearedForAll, SentOn, Cleared, Cancelled, Requested}
@@ -113,7 +113,7 @@ Tells p (AddressSet w) = p ≡ 0x88 ∷ 0x30 ∷ w ∷ 0xff ∷ []
 Tells p ClearedForAll = Unit {0}
 Tells p SentOn = Unit {0}
 Tells p Cleared = body_of p ≡ 0x01 ∷ 0x00 ∷ 0x01 ∷ []
-Tells p (Cancelled y) = body_of p ≡ (0x20 + y) ∷ []
+Tells p (Cancelled y) = (y ≤ 15) × (body_of p ≡ (0x20 + y) ∷ [])
 Tells p Requested = (body_of p ≢ 0x01 ∷ 0x00 ∷ 0x01 ∷ []) × ((y : ℕ) → y ≤ 15 → body_of p ≢ (0x20 + y) ∷ [])
 
 -- the packet meets the rule: it fits, and no other that fits has a smaller number
@@ -121,6 +121,10 @@ pub record Meets (a : ℕ) (p : List ℕ) (r : Rule) : Type 0 where
   pub fits : RuleFits a p (rule_number r)
   pub first : (n : ℕ) → RuleFits a p n → rule_number r ≤ n
   pub tells : Tells p r
+
+-- every packet meets just one rule
+abbrev pub EachPacketMeetsOneRule : Type 0
+EachPacketMeetsOneRule = (a : ℕ) (p : List ℕ) (r : Rule) → Meets a p r ↔ (r ≡ rule_of a p)
 
 -- What becomes of a packet by its sender and receiver.
 

@@ -3,13 +3,18 @@
 ghost use Rattle.rules.specs.Modes.{ModesRowByRow};
 ghost use Rattle.rules.specs.Orders.{PacketsAreReadByTheirRow};
 ghost use Rattle.rules.specs.Replies.{RepliesReadBack};
-ghost use Rattle.rules.specs.Ring.{WhatBecomesOfPackets};
+ghost use Rattle.rules.specs.Ring.{EachPacketMeetsOneRule, WhatBecomesOfPackets};
 
 use rows::theorems::{an_order_is_read_by_one_row, one_byte_off_is_no_order};
 
 /// A reply that is sent is read as itself, its socket being the low digit that is on the line.
 pub fn replies_read_back()
     ensures { RepliesReadBack }
+{}
+
+/// Every packet meets just one rule of the ring, whatever the address.
+pub fn each_packet_meets_one_rule()
+    ensures { EachPacketMeetsOneRule }
 {}
 
 /// What becomes of a packet by its sender and receiver: what is from this end is taken off, what is from another end
