@@ -10,7 +10,7 @@ use Rattle.rows.specs.Forms.{settings_told}
 use Rattle.rows.specs.Reading.{four}
 use Rattle.wire.specs.Packets.{body_of}
 
--- how many digits an answer has
+-- how many bytes the digits of an answer are, with the 00 00 of two digits
 abbrev pub digit_count : Form → ℕ
 digit_count Digit = 1
 digit_count Level = 4

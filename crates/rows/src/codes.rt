@@ -1,7 +1,7 @@
 //! The codes of rows, and the settings that they stand for.
 
 ghost use Rattle.std.specs.Prelude.{◌≡◌};
-ghost use Rattle.rows.specs.Codes.{coded as coded_by, setting_of};
+ghost use Rattle.rows.specs.Codes.{coded as coded_by};
 
 use head::Setting;
 
@@ -42,6 +42,8 @@ fn coded(pairs: &[(u8, Setting)], code: u8) -> Option<Setting>
 }
 
 impl Codes {
+    ghost use Rattle.rows.specs.Codes.{setting_of};
+
     /// The setting that a code stands for, if it is one of these.
     pub(crate) fn setting(self, code: u8) -> Option<Setting>
         ensures { result ≡ setting_of self code }

@@ -1,9 +1,7 @@
 //! What a command says, before it is an order: small, since it is handed on by what searches the rows.
 
 ghost use Rattle.std.specs.Prelude.{◌≡◌};
-ghost use Rattle.head.specs.Orders.{parts, all_in_range};
-ghost use Rattle.rows.specs.Reading.{ranged as ranged_by};
-ghost use Rattle.rows.specs.Orders.{to as target_of, order_of, subject as subject_of};
+ghost use Rattle.rows.specs.Orders.{to as target_of};
 
 use head::{Axis, Order, Paces, Setting, Target, Targets};
 
@@ -50,6 +48,10 @@ pub(crate) fn to(setting: Setting, value: i32) -> Target
 }
 
 impl Command {
+    ghost use Rattle.head.specs.Orders.{parts, all_in_range};
+    ghost use Rattle.rows.specs.Orders.{order_of, subject as subject_of};
+    ghost use Rattle.rows.specs.Reading.{ranged as ranged_by};
+
     // Whether every target of its order is in the range of its setting.
     #[inline(always)]
     fn in_range(self) -> bool

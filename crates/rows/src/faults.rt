@@ -3,24 +3,27 @@
 ghost use Rattle.std.specs.Prelude.{◌≡◌};
 
 use fault::{FaultCode, Layer};
-use std::error::Error;
-use std::fmt;
+use thiserror::Error;
 
 /// Found by the row search.
-#[derive(Clone, Copy, Debug, PartialEq, Eq)]
+#[derive(Clone, Copy, Debug, PartialEq, Eq, Error)]
 pub enum RowFault {
     /// Fault 6: no row of its kind has that category and code.
+    #[error("no row has this category and code")]
     NoSuchCode,
     /// Fault 7: a row has them, and none admits what stands behind them.
+    #[error("no row admits these operands")]
     NoSuchOperands,
 }
 
 /// Found by the packet layer, or passed on by it whole.
-#[derive(Clone, Copy, Debug, PartialEq, Eq)]
+#[derive(Clone, Copy, Debug, PartialEq, Eq, Error)]
 pub enum PacketFault {
     /// Fault 5: the body is neither a command nor an inquiry.
+    #[error("neither a command nor an inquiry")]
     UnknownBody,
     /// What the row search found.
+    #[error(transparent)]
     Row(RowFault),
 }
 
@@ -69,25 +72,3 @@ impl From<PacketFault> for FaultCode {
         }
     }
 }
-
-impl fmt::Display for RowFault {
-    fn fmt<W: fmt::Write>(&self, f: &mut fmt::Formatter<W>) -> fmt::Result {
-        f.write_str(match self {
-            RowFault::NoSuchCode => "no row has this category and code",
-            RowFault::NoSuchOperands => "no row admits these operands",
-        })
-    }
-}
-
-impl fmt::Display for PacketFault {
-    fn fmt<W: fmt::Write>(&self, f: &mut fmt::Formatter<W>) -> fmt::Result {
-        match self {
-            PacketFault::UnknownBody => f.write_str("neither a command nor an inquiry"),
-            PacketFault::Row(fault) => write!(f, "{fault}"),
-        }
-    }
-}
-
-impl Error for RowFault {}
-
-impl Error for PacketFault {}

@@ -2,9 +2,8 @@
 //! be in range.
 
 ghost use Rattle.std.specs.Prelude.{◌≡◌};
-ghost use Rattle.rows.specs.Reading.{alone as alone_by, pushed as pushed_by, turned as turned_by};
+ghost use Rattle.rows.specs.Reading.{alone as alone_by, pushed as pushed_by, turning as turning_by};
 ghost use Rattle.rows.specs.Reading.{lens_driven as driven_by, placed as placed_by, placed_at as placed_at_by};
-ghost use Rattle.rows.specs.Reading.{turning as turning_by, steered as steered_by};
 ghost use Rattle.rows.specs.Reading.{pan_tilt_driven as pan_tilt_driven_by, pan_tilt as pan_tilt_by};
 ghost use Rattle.rows.specs.Reading.{pan_tilt_placed as pan_tilt_placed_by, home as home_by};
 
@@ -46,6 +45,8 @@ pub enum Operands {
 }
 
 impl Sense {
+    ghost use Rattle.rows.specs.Reading.{turned as turned_by, steered as steered_by};
+
     // A drive that points up, or the other way.
     fn turned(self, drive: i16) -> i32
         ensures { result ≡ turned_by self drive }
