@@ -1,5 +1,5 @@
 -- Heads of one make or another; and which of ours a head is.
-use Rattle.std.specs.Prelude.{◌≡◌, ℕ, Bool, true, false, if◌then◌else◌, List, [], ◌∷◌, Ok, Err, Result, codes}
+use Rattle.std.specs.Prelude.{ℕ, if◌then◌else◌, List, [], ◌∷◌, Ok, Err, Result, codes}
 use Rattle.std.specs.Str.{bytes_eq}
 use Rattle.head.specs.Cases.{first_case}
 use Rattle.heads.specs.declared.any.HeadKind.{HeadKind}

@@ -40,12 +40,8 @@ impl<G: Gear> Look for Geared<G> {
 }
 
 impl<G: Gear> Head for Geared<G> {
-    ghost use Rattle.std.specs.Prelude.{false, ◌≢◌, OnOk, OnErr};
-    ghost use Rattle.head.specs.Meaning.{busy, put, reason_given, Started, Ticked, Dropped};
     ghost use Rattle.head.specs.Works.{slots_of};
-    ghost use Rattle.heads.specs.Exact.{Ran};
-    ghost use Rattle.heads.specs.Geared.{gear_of, rig_of, geared_meaning, GearStarts, GearTicks, GearDrops};
-    ghost use Rattle.heads.specs.Punctual.{is_jammed};
+    ghost use Rattle.heads.specs.Geared.{gear_of, geared_meaning, GearStarts, GearTicks, GearDrops};
     ghost use Rattle.std.proofs.Common.{rules};
 
     ghost slots = { λ h. slots_of h.rig.works };
@@ -69,34 +65,16 @@ impl<G: Gear> Head for Geared<G> {
     }
 
     #[inline(always)]
-    fn start(&mut self, slot: u8, order: &Order) -> Result<(), Refusal>
-        ensures started { Started (geared_meaning self.old) slot order.now
-            (reason_given result) (geared_meaning self.new) }
-        ensures ticks { let n = G.ticks (geared_meaning self.old).setting order.now in
-            OnOk result (
-            (geared_meaning self.new).slots ≡ put (geared_meaning self.old).slots slot (busy order.now n)) }
-        ensures gear { gear_of self.new ≡ gear_of self.old }
-        ensures refused { OnErr result (rig_of self.new ≡ rig_of self.old) }
-    {
+    fn start(&mut self, slot: u8, order: &Order) -> Result<(), Refusal> {
         self.rig.start(G::PAN_TILT, slot, order)
     }
 
     #[inline(always)]
-    fn tick(&mut self) -> Endings
-        ensures lawful { Ticked (geared_meaning self.old) result (geared_meaning self.new) }
-        ensures exact { Ran (G.motion (gear_of self.old)) (geared_meaning self.old) result (geared_meaning self.new) }
-        ensures arrives { G.motion (gear_of self.old) ≡ Stepwise
-            → (is_jammed result.one ≡ false) × (is_jammed result.two ≡ false) }
-        ensures gear { gear_of self.new ≡ gear_of self.old }
-    {
+    fn tick(&mut self) -> Endings {
         self.rig.tick()
     }
 
-    fn drop_slot(&mut self, slot: u8)
-        ensures dropped { Dropped (geared_meaning self.old) slot (geared_meaning self.new) }
-        ensures gear { gear_of self.new ≡ gear_of self.old }
-        ensures no_slot { slot ≢ 1 → slot ≢ 2 → rig_of self.new ≡ rig_of self.old }
-    {
+    fn drop_slot(&mut self, slot: u8) {
         self.rig.works.drop_slot(slot)
     }
 }

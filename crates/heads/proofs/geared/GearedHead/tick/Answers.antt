@@ -1,4 +1,4 @@
-use Rattle.std.proofs.Common.{◌∙◌, subst}
+use Rattle.std.proofs.Common.{◌∙◌, refl, subst}
 use Rattle.heads.specs.declared.motion.Motion.{Motion}
 use Rattle.heads.specs.Exact.{Ran}
 use Rattle.heads.specs.Rigs.{rig_meaning}
@@ -16,18 +16,14 @@ invariant_of-self g c =
       on_time = λ e. (rig_keeps p h.rig r c.tick.result (subst (λ (m : Motion). Ran m (rig_meaning p h.rig) c.tick.result (rig_meaning p r)) (h.moves ∙ e) (c.tick.ensures.ran p)) (h.on_time e)).0;
     }
 
-pub returns-clause-lawful : goal.returns-clause-lawful
-returns-clause-lawful g c = ticked c.args.self.now.rig.motion g.G.Gear.PAN_TILT c.args.self.now.rig c.tick.new.self c.tick.result (c.tick.ensures.ran _)
-
-pub returns-clause-exact : goal.returns-clause-exact
-returns-clause-exact g c =
-    let h = c.args.self.now in
-    let p = g.G.Gear.PAN_TILT in
-    subst (λ (m : Motion). Ran m (rig_meaning p h.rig) c.tick.result (rig_meaning p c.tick.new.self)) h.moves (c.tick.ensures.ran p)
-
-pub returns-clause-arrives : goal.returns-clause-arrives
-returns-clause-arrives g c e =
+pub returns : goal.returns
+returns g c =
     let h = c.args.self.now in
     let p = g.G.Gear.PAN_TILT in
     let r = c.tick.new.self in
-    (rig_keeps p h.rig r c.tick.result (subst (λ (m : Motion). Ran m (rig_meaning p h.rig) c.tick.result (rig_meaning p r)) (h.moves ∙ e) (c.tick.ensures.ran p)) (h.on_time e)).1
+    record {
+      ticked = ticked h.rig.motion p h.rig r c.tick.result (c.tick.ensures.ran p);
+      exact = subst (λ (m : Motion). Ran m (rig_meaning p h.rig) c.tick.result (rig_meaning p r)) h.moves (c.tick.ensures.ran p);
+      arrives = λ e. (rig_keeps p h.rig r c.tick.result (subst (λ (m : Motion). Ran m (rig_meaning p h.rig) c.tick.result (rig_meaning p r)) (h.moves ∙ e) (c.tick.ensures.ran p)) (h.on_time e)).1;
+      gear = refl;
+    }
