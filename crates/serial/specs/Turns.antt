@@ -102,10 +102,14 @@ pub record Turn : Type 0 where
 abbrev pub time_then : Instant → ℕ → Instant → ℕ
 time_then start time told = max time (min ((instant_nanos told - instant_nanos start) / 1_000_000) (2 ^ 64 - 1))
 
+-- so many bytes at most does a read ask for
+abbrev pub most_read : ℕ
+most_read = 256
+
 -- a read that answered r; one that a signal broke off, before a byte came, is made again
 pub data Unbroken {O : Type 0} (op : Operating O) : O → Result (List ℕ) Error → O → Type 0 where
-  read : {x y : O} (r : Result (List ℕ) Error) → IfErr r (λ e. error_kind e ≢ Interrupted) → op x (reads r) y → Unbroken op x r y
-  again : {x y z : O} {r : Result (List ℕ) Error} (e : Error) → error_kind e ≡ Interrupted → op x (reads (Err e)) y → Unbroken op y r z → Unbroken op x r z
+  read : {x y : O} (r : Result (List ℕ) Error) → IfErr r (λ e. error_kind e ≢ Interrupted) → op x (reads most_read r) y → Unbroken op x r y
+  again : {x y z : O} {r : Result (List ℕ) Error} (e : Error) → error_kind e ≡ Interrupted → op x (reads most_read (Err e)) y → Unbroken op y r z → Unbroken op x r z
 
 pub record Begun {O : Type 0} (op : Operating O) (x : O) (t : Turn) (y : O) : Type 0 where
   pub between : O

@@ -91,7 +91,7 @@ fn is_interrupted(read: &io::Result<usize>) -> bool
 }
 
 // Reads, and again where a signal broke the read off.
-fn read<O: Outside>(outside: &mut O, buffer: &mut [u8]) -> io::Result<usize>
+fn read<O: Outside>(outside: &mut O, buffer: &mut [u8; READ]) -> io::Result<usize>
     ensures within { ReadsAtMost result buffer.new }
     ensures unbroken { Unbroken O.operated outside.old (given result buffer.new) outside.new }
     ensures fewer { OnOk result ((O.known outside.new).left < (O.known outside.old).left) }
@@ -164,7 +164,6 @@ impl<H: Head> Port<H> {
     pub fn serve<O: Outside>(&mut self, outside: &mut O) -> io::Result<Finish>
         ensures served { Served O.operated (box self.old) outside.old result (box self.new) outside.new }
         ensures sums { Sums (box self.old) (O.known outside.old) result (box self.new) (O.known outside.new) }
-        ensures asks { 0 < READ }
     {
         let start = outside.now()?;
         let mut time = 0;
