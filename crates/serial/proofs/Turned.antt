@@ -6,7 +6,7 @@ use Rattle.std.proofs.lemmas.List.{take_more, take-append-drop, map-append, repl
 use Rattle.end.specs.declared.call.Call.{Call}
 use Rattle.end.specs.declared.call.Call.TheVariants.{Byte, Tick}
 use Rattle.end.specs.Faults.{Answer}
-use Rattle.end.specs.Records.{Record, calls_of, room_for, record_of}
+use Rattle.end.specs.Records.{Record, calls_of, sent_by, room_for, record_of}
 use Rattle.end.specs.Runs.{Calls}
 use Rattle.end.specs.Runs as runs
 use Rattle.end.specs.States.{State, InRange}
@@ -74,16 +74,20 @@ one_failed {c = c} a sent e why step ranged some w =
 
 -- One after the other.
 
-calls_of_both : (h h' : List Record) → calls_of h ++ calls_of h' ≡ calls_of (h' ++ h)
+pub calls_of_both : (h h' : List Record) → calls_of h ++ calls_of h' ≡ calls_of (h' ++ h)
 calls_of_both h [] = append-nil _
 calls_of_both h (r ∷ h') = sym (append_assoc (calls_of h) (calls_of h') (r.fed.call ∷ [])) ∙ ap (λ (cs : List Call). cs ++ r.fed.call ∷ []) (calls_of_both h h')
+
+pub sent_by_both : (h h' : List Record) → sent_by h ++ sent_by h' ≡ sent_by (h' ++ h)
+sent_by_both h [] = append-nil _
+sent_by_both h (r ∷ h') = sym (append_assoc (sent_by h) (sent_by h') r.fed.sent) ∙ ap (λ (bs : List ℕ). bs ++ r.fed.sent) (sent_by_both h h')
 
 replies_both : (h h' : List Record) → replies h ++ replies h' ≡ replies (h' ++ h)
 replies_both h [] = append-nil _
 replies_both h (r ∷ h') =
     sym (append_assoc (replies h) (replies h') (reply r.fed.sent (Ok tt))) ∙ ap (λ (os : List Operation). os ++ reply r.fed.sent (Ok tt)) (replies_both h h')
 
-room_both : (h h' : List Record) → HadRoom h → HadRoom h' → HadRoom (h' ++ h)
+pub room_both : (h h' : List Record) → HadRoom h → HadRoom h' → HadRoom (h' ++ h)
 room_both h [] p q = p
 room_both h (r ∷ h') p q = (q.0, room_both h h' p q.1)
 

@@ -5,4 +5,6 @@ pub mod Ticks
 pub mod Silences
 pub mod Words
 pub mod Turns
+pub mod Sums
 pub mod Theorems
+pub mod Program

@@ -9,8 +9,8 @@ use Rattle.std.specs.declared.time.Instant.{Instant}
 
 -- an operation, with what came of it
 pub data Operation : Type 0 where
-  -- a read gave these bytes, or failed
-  reads : Result (List ℕ) Error → Operation
+  -- a read that asked for so many bytes at most gave these, or failed
+  reads : ℕ → Result (List ℕ) Error → Operation
   -- these bytes were to be written
   writes : List ℕ → Result (Unit {0}) Error → Operation
   -- the clock told the time, or failed
@@ -44,8 +44,8 @@ pub record Moved (input output : List ℕ) (k k' : Known) : Type 0 where
 
 -- what every outside keeps to. After a read that gave bytes or none, or that a signal broke off, fewer are left
 abbrev pub Means : Operation → Known → Known → Type 0
-Means (reads (Ok bytes)) k k' = Moved bytes [] k k' × (k'.left < k.left)
-Means (reads (Err e)) k k' = Moved [] [] k k' × (error_kind e ≡ Interrupted → k'.left < k.left)
+Means (reads n (Ok bytes)) k k' = Moved bytes [] k k' × (k'.left < k.left)
+Means (reads n (Err e)) k k' = Moved [] [] k k' × (error_kind e ≡ Interrupted → k'.left < k.left)
 Means (writes bytes (Ok u)) k k' = Moved [] bytes k k'
 Means (writes bytes (Err e)) k k' = (n : ℕ) × Moved [] (take n bytes) k k'
 Means (tells r) k k' = Moved [] [] k k'

@@ -14,7 +14,7 @@ module _ {R W C : Type 0} (remaining : R → Option (List ℕ)) (contents : W �
 
   -- what an operation leaves alone: a read the writer, a write the reader, the clock both
   abbrev pub LeavesAlone : Operation → Streams R W C → Streams R W C → Type 0
-  LeavesAlone (reads r) x y = y.output ≡ x.output
+  LeavesAlone (reads n r) x y = y.output ≡ x.output
   LeavesAlone (writes bytes r) x y = y.input ≡ x.input
   LeavesAlone (tells r) x y = (y.input ≡ x.input) × (y.output ≡ x.output)
 

@@ -7,10 +7,13 @@ use Rattle.std.specs.declared.io.ErrorKind.TheVariants.{Interrupted}
 use Rattle.std.specs.declared.time.Instant.{Instant}
 use Rattle.end.specs.declared.call.Call.{Call}
 use Rattle.end.specs.declared.call.Call.TheVariants.{Byte, Tick}
+use Rattle.end.specs.declared.end.End.{End}
 use Rattle.end.specs.Law.{LawfulBehind}
 use Rattle.end.specs.Records.{Record, calls_of, room_for}
 use Rattle.end.specs.Runs.{Calls}
 use Rattle.end.specs.States.{State, state}
+use Rattle.end.specs.Steps.{Made}
+use Rattle.head.specs.Meaning.{Meaning}
 use Rattle.head.specs.declared.traits.Head.{Ghosts as HeadGhosts}
 use Rattle.head.specs.declared.traits.Look.{Ghosts as LookGhosts}
 use Rattle.serial.specs.declared.port.Port.{Port}
@@ -74,6 +77,16 @@ pub record Box : Type 0 where
 abbrev pub box : {H : Type 0} {h : HeadGhosts H} {l : LookGhosts H} → Port H h l → Box
 box {h = h} {l = l} p = record { end = state p.end; ticks = p.ticks; silence = p.silence; quiet = p.quiet }
 
+abbrev pub end_of : {H : Type 0} {h : HeadGhosts H} {l : LookGhosts H} → Port H h l → End H h l
+end_of p = p.end
+
+-- a box of an end just made of a head that means m: no tick is paid, and nothing was heard
+pub record Fresh (m : Meaning) (tick : ℕ) (reads : Option ℕ) (b : Box) : Type 0 where
+  pub made : Made m b.end
+  pub ticks : b.ticks ≡ record { length = tick; paid = 0 }
+  pub silence : b.silence ≡ record { reads = 0; since = 0 }
+  pub quiet : b.quiet ≡ reads
+
 -- between turns: a box, the time of its last turn, and what is outside
 pub record Moment (O : Type 0) : Type 0 where
   pub box : Box
@@ -89,10 +102,14 @@ pub record Turn : Type 0 where
 abbrev pub time_then : Instant → ℕ → Instant → ℕ
 time_then start time told = max time (min ((instant_nanos told - instant_nanos start) / 1_000_000) (2 ^ 64 - 1))
 
+-- so many bytes at most does a read ask for
+abbrev pub most_read : ℕ
+most_read = 256
+
 -- a read that answered r; one that a signal broke off, before a byte came, is made again
 pub data Unbroken {O : Type 0} (op : Operating O) : O → Result (List ℕ) Error → O → Type 0 where
-  read : {x y : O} (r : Result (List ℕ) Error) → IfErr r (λ e. error_kind e ≢ Interrupted) → op x (reads r) y → Unbroken op x r y
-  again : {x y z : O} {r : Result (List ℕ) Error} (e : Error) → error_kind e ≡ Interrupted → op x (reads (Err e)) y → Unbroken op y r z → Unbroken op x r z
+  read : {x y : O} (r : Result (List ℕ) Error) → IfErr r (λ e. error_kind e ≢ Interrupted) → op x (reads most_read r) y → Unbroken op x r y
+  again : {x y z : O} {r : Result (List ℕ) Error} (e : Error) → error_kind e ≡ Interrupted → op x (reads most_read (Err e)) y → Unbroken op y r z → Unbroken op x r z
 
 pub record Begun {O : Type 0} (op : Operating O) (x : O) (t : Turn) (y : O) : Type 0 where
   pub between : O

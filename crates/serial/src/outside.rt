@@ -3,6 +3,7 @@
 //! A box is proved over any outside. What a call on it does is a relation between the outside's own values, which
 //! only that call shows: so a box makes just the operations that its contract tells, in that order.
 
+ghost use Rattle.std.specs.Prelude.{length};
 ghost use Rattle.std.specs.Io.{ReadsAtMost};
 ghost use Rattle.serial.specs.Outside.{Known, Means, Operation, given, reads, tells, writes};
 
@@ -20,7 +21,7 @@ pub trait Outside {
     /// Reads some bytes; none, if none came in time.
     fn read(&mut self, buffer: &mut [u8]) -> io::Result<usize>
         ensures within { ReadsAtMost result buffer.new }
-        ensures operated { operated self.old (reads (given result buffer.new)) self.new };
+        ensures operated { operated self.old (reads (length buffer.old) (given result buffer.new)) self.new };
 
     /// Writes all of the bytes, and waits until they are on their way.
     fn write(&mut self, bytes: &[u8]) -> io::Result<()>

@@ -4,13 +4,14 @@ ghost use Rattle.std.specs.Prelude.{◌≡◌, ◌-◌, ◌/◌, ◌^◌, ◌<�
 ghost use Rattle.std.specs.Io.{ReadsAtMost};
 ghost use Rattle.std.specs.IoError.{error_kind};
 ghost use Rattle.std.specs.Time.{instant_nanos};
+ghost use Rattle.end.specs.Ends.{TakesOver};
 ghost use Rattle.end.specs.States.{meaning, state};
-ghost use Rattle.end.specs.Steps.{Made};
 ghost use Rattle.end.specs.declared.call.Call.TheVariants.{Byte, Tick};
 ghost use Rattle.serial.specs.Outside.{Operated, given, writes};
 ghost use Rattle.serial.specs.Silences.{finish, heard};
+ghost use Rattle.serial.specs.Sums.{Sums};
 ghost use Rattle.serial.specs.Ticks.{owed, paid_at};
-ghost use Rattle.serial.specs.Turns.{Answered, Failed, Served, Unbroken, box, calls_in, reply as reply_of};
+ghost use Rattle.serial.specs.Turns.{Answered, Failed, Fresh, Served, Unbroken, box, end_of, calls_in, reply as reply_of};
 
 use crate::outside::Outside;
 use crate::silence::{Finish, Silence};
@@ -90,7 +91,7 @@ fn is_interrupted(read: &io::Result<usize>) -> bool
 }
 
 // Reads, and again where a signal broke the read off.
-fn read<O: Outside>(outside: &mut O, buffer: &mut [u8]) -> io::Result<usize>
+fn read<O: Outside>(outside: &mut O, buffer: &mut [u8; READ]) -> io::Result<usize>
     ensures within { ReadsAtMost result buffer.new }
     ensures unbroken { Unbroken O.operated outside.old (given result buffer.new) outside.new }
     ensures fewer { OnOk result ((O.known outside.new).left < (O.known outside.old).left) }
@@ -123,10 +124,8 @@ pub struct Port<H: Head> {
 impl<H: Head> Port<H> {
     /// An end made of the head at time 0, with no tick owed and nothing quiet yet.
     pub fn new(head: H, tick: TickLength, quiet: Option<u32>) -> Port<H>
-        ensures end { Made (meaning H.Look H.slots head) (state result.end) }
-        ensures ticks { result.ticks ≡ record { length = tick; paid = 0 } }
-        ensures silence { result.silence ≡ record { reads = 0; since = 0 } }
-        ensures quiet { result.quiet ≡ quiet }
+        ensures fresh { Fresh (meaning H.Look H.slots head) tick quiet (box result) }
+        ensures head { TakesOver head (end_of result) }
     {
         Port {
             end: End::make(head),
@@ -143,14 +142,15 @@ impl<H: Head> Port<H> {
     /// does not starve the head and a quiet one gets its completions. What a call sends is written before the next
     /// is made. It tells what ends serving, if anything does.
     pub fn turn<O: Outside>(&mut self, bytes: &[u8], now: u64, outside: &mut O) -> io::Result<Option<Finish>>
-        ensures answered { OnOk result (Answered O.operated (calls_in bytes.now (owed self.old.ticks now))
-            (state self.old.end) outside.old (state self.new.end) outside.new) }
-        ensures failed { IfErr result (λ e. Failed O.operated (calls_in bytes.now (owed self.old.ticks now)) e
-            (state self.old.end) outside.old (state self.new.end) outside.new) }
-        ensures ticks { self.new.ticks ≡ paid_at self.old.ticks now }
-        ensures silence { self.new.silence ≡ heard self.old.silence (length bytes.now) now }
-        ensures quiet { self.new.quiet ≡ self.old.quiet }
-        ensures told { IfOk result (λ h. h ≡ finish self.old.silence (length bytes.now) now self.old.quiet) }
+        ensures answered { OnOk result (Answered O.operated (calls_in bytes.now (owed (box self.old).ticks now))
+            (box self.old).end outside.old (box self.new).end outside.new) }
+        ensures failed { IfErr result (λ e. Failed O.operated (calls_in bytes.now (owed (box self.old).ticks now)) e
+            (box self.old).end outside.old (box self.new).end outside.new) }
+        ensures ticks { (box self.new).ticks ≡ paid_at (box self.old).ticks now }
+        ensures silence { (box self.new).silence ≡ heard (box self.old).silence (length bytes.now) now }
+        ensures quiet { (box self.new).quiet ≡ (box self.old).quiet }
+        ensures told { IfOk result (λ h.
+            h ≡ finish (box self.old).silence (length bytes.now) now (box self.old).quiet) }
     {
         let finish = self.silence.heard(bytes.len(), now, self.quiet);
         let ticks = self.ticks.owed(now);
@@ -163,7 +163,7 @@ impl<H: Head> Port<H> {
     /// read asks for a byte at least, so that one of no bytes is a quiet one.
     pub fn serve<O: Outside>(&mut self, outside: &mut O) -> io::Result<Finish>
         ensures served { Served O.operated (box self.old) outside.old result (box self.new) outside.new }
-        ensures asks { 0 < READ }
+        ensures sums { Sums (box self.old) (O.known outside.old) result (box self.new) (O.known outside.new) }
     {
         let start = outside.now()?;
         let mut time = 0;

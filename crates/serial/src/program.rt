@@ -1,5 +1,12 @@
 //! The box as a program: the words that it is called with, and what is said of what ended it.
 
+ghost use Rattle.std.specs.Prelude.{◌≡◌, IfErr};
+ghost use Rattle.std.specs.Process.{exit_status};
+ghost use Rattle.end.specs.Ends.{head_of};
+ghost use Rattle.heads.specs.Any.{kind_of};
+ghost use Rattle.serial.specs.Program.{BoxFor, OfWords, Ran, Told, answer as answered};
+ghost use Rattle.serial.specs.Turns.{box, end_of};
+
 use crate::arguments::{Arguments, ArgumentsError};
 use crate::outside::Outside;
 use crate::port::Port;
@@ -28,27 +35,54 @@ pub enum Failure {
     LineGone,
 }
 
-// What the words behind the program's name say.
-fn arguments<R: Env + AllocGlobal>(rt: &R) -> io::Result<Result<Arguments, ArgumentsError>> {
+// The words behind the program's name, read as arguments.
+fn words_read<R: Env + AllocGlobal>(rt: &R) -> io::Result<Result<Arguments, ArgumentsError>> {
     let heap = rt.alloc();
     let words: Vec<String> = env::args(rt)?.skip(1).collect(heap)?;
     let texts: Vec<&str> = words.iter().map(|word| word.as_str()).collect(heap)?;
     Ok(Arguments::parse(texts.as_slice()))
 }
 
-/// Serves with a head as the words of the program say, until the line is quiet or something fails.
-pub fn run<R: Env + AllocGlobal, O: Outside>(rt: &R, outside: &mut O) -> Result<(), Failure> {
-    let arguments = arguments(rt)??;
-    let head = AnyHead::new(arguments.head);
-    let mut port = Port::new(head, arguments.tick, arguments.quiet);
-    match port.serve(outside)? {
-        Finish::Quiet => Ok(()),
-        Finish::Gone => Err(Failure::LineGone),
+fn arguments<R: Env + AllocGlobal>(rt: &R) -> Result<Arguments, Failure>
+    ensures { IfErr result OfWords }
+{
+    match words_read(rt) {
+        Ok(arguments) => arguments.map_err(Failure::Arguments),
+        Err(error) => Err(Failure::Io(error)),
     }
 }
 
+// The box that they ask for.
+fn port(arguments: Arguments) -> Port<AnyHead>
+    ensures made { BoxFor arguments (box result) }
+    ensures kind { kind_of (head_of (end_of result)) ≡ arguments.head }
+{
+    let head = AnyHead::new(arguments.head);
+    Port::new(head, arguments.tick, arguments.quiet)
+}
+
+fn answer(served: io::Result<Finish>) -> Result<(), Failure>
+    ensures { result ≡ answered served }
+{
+    match served {
+        Ok(Finish::Quiet) => Ok(()),
+        Ok(Finish::Gone) => Err(Failure::LineGone),
+        Err(error) => Err(Failure::Io(error)),
+    }
+}
+
+/// Serves with a box as the words of the program say, until the line is quiet or something fails.
+pub fn run<R: Env + AllocGlobal, O: Outside>(rt: &R, outside: &mut O) -> Result<(), Failure>
+    ensures { Ran O.operated outside.old result outside.new }
+{
+    let arguments = arguments(rt)?;
+    answer(port(arguments).serve(outside))
+}
+
 /// Runs it, tells a failure on the standard error, and gives the status: 1 for a failure, 0 else.
-pub fn run_and_tell<R: Env + AllocGlobal + Eprint, O: Outside>(rt: &R, outside: &mut O) -> ExitCode {
+pub fn run_and_tell<R: Env + AllocGlobal + Eprint, O: Outside>(rt: &R, outside: &mut O) -> ExitCode
+    ensures { Told O.operated outside.old (exit_status result) outside.new }
+{
     match run(rt, outside) {
         Ok(()) => ExitCode::SUCCESS,
         Err(failure) => {

@@ -2,6 +2,7 @@ use Rattle.std.proofs.Common.{◌≡◌, arith, rules, refl}
 use Rattle.serial.specs.Turns.{Served, unstarted, at_read, at_clock, box, time_then}
 use Rattle.serial.proofs.Reading.{no_more_by}
 use Rattle.serial.proofs.Serving.{begins, err_told, turn_made, turn_lost, goes_on, ends, fails, no_more_then}
+use Rattle.serial.proofs.Summing.{sums}
 use Rattle.serial.proofs.port.Port.serve.Goals as goal
 
 pub returns-in_err-start-clause-served : goal.returns-in_err-start-clause-served
@@ -53,3 +54,18 @@ loop-count-smaller g c =
     let after_clock = no_more_by known means c.in_ok-now.ensures in
     let after_turn = no_more_then known means c.in_ok-finish.ensures.answered.written in
     omega arith
+
+pub returns-in_err-start-clause-sums : goal.returns-in_err-start-clause-sums
+returns-in_err-start-clause-sums g c = sums _ g.O.Outside.known g.met.O.Outside.means (returns-in_err-start-clause-served g c)
+
+pub returns-in_err-count-clause-sums : goal.returns-in_err-count-clause-sums
+returns-in_err-count-clause-sums g c = sums _ g.O.Outside.known g.met.O.Outside.means (returns-in_err-count-clause-served g c)
+
+pub returns-in_err-now-clause-sums : goal.returns-in_err-now-clause-sums
+returns-in_err-now-clause-sums g c = sums _ g.O.Outside.known g.met.O.Outside.means (returns-in_err-now-clause-served g c)
+
+pub returns-in_err-finish-clause-sums : goal.returns-in_err-finish-clause-sums
+returns-in_err-finish-clause-sums g c = sums _ g.O.Outside.known g.met.O.Outside.means (returns-in_err-finish-clause-served g c)
+
+pub returns-in-Some-clause-sums : goal.returns-in-Some-clause-sums
+returns-in-Some-clause-sums g c = sums _ g.O.Outside.known g.met.O.Outside.means (returns-in-Some-clause-served g c)

@@ -1,0 +1,11 @@
+//! What the programs `r3` and `bench` do for words, bytes and scripts, tried with a runtime of our own. In a crate of
+//! its own, so that no library is proved twice.
+
+#![tactic(auto)]
+
+#[cfg(test)]
+mod called;
+#[cfg(test)]
+mod r3;
+#[cfg(test)]
+mod scripts;
