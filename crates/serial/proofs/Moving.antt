@@ -42,9 +42,11 @@ pub flushed : (unread old mid new : Option (List ℕ)) (left : ℕ) (bytes : Lis
 flushed unread old mid new left bytes (Ok u) p k =
     record { consumed = consumes_none unread; appended = appends_kept old mid new bytes p k; left = omega arith }
 flushed unread old mid new left bytes (Err e) p k =
-    let all = appends_kept old mid new bytes p k in
-    (length bytes, record {
-      consumed = consumes_none unread;
-      appended = subst (λ (l : List ℕ). Appends old new l) (sym (take-length bytes)) all;
-      left = omega arith;
-    })
+    let all = appends_kept old mid new bytes p k in (
+      length bytes,
+      record {
+        consumed = consumes_none unread;
+        appended = subst (λ (l : List ℕ). Appends old new l) (sym (take-length bytes)) all;
+        left = omega arith;
+      },
+    )

@@ -29,8 +29,8 @@ enough (Some most) n = nat_le most n
 abbrev pub finish : Silence → ℕ → ℕ → Option ℕ → Option Finish
 finish s count now quiet =
     first_case (
-      (nat_lt 0 count, None)
-      ∷ (whole s && nat_lt (now - s.since) 1000, Some Gone)
-      ∷ (enough quiet (more s), Some Quiet)
-      ∷ []
+    (nat_lt 0 count, None)
+    ∷ (whole s && nat_lt (now - s.since) 1000, Some Gone)
+    ∷ (enough quiet (more s), Some Quiet)
+    ∷ []
     ) None

@@ -36,6 +36,7 @@ fn reply<O: Outside>(sent: &[u8], outside: &mut O) -> io::Result<()>
     }
     outside.write(sent)
 }
+
 fn answer_byte<H: Head, O: Outside>(end: &mut End<H>, byte: u8, outside: &mut O) -> io::Result<()>
     ensures answered { OnOk result (Answered O.operated (Byte byte ∷ [])
         (state end.old) outside.old (state end.new) outside.new) }
@@ -58,7 +59,11 @@ fn answer_tick<H: Head, O: Outside>(end: &mut End<H>, outside: &mut O) -> io::Re
     reply(&buffer[..count], outside)
 }
 
-fn answer_bytes<H: Head, O: Outside>(end: &mut End<H>, bytes: &[u8], outside: &mut O) -> io::Result<()>
+fn answer_bytes<H: Head, O: Outside>(
+    end: &mut End<H>,
+    bytes: &[u8],
+    outside: &mut O,
+) -> io::Result<()>
     ensures answered { OnOk result (Answered O.operated (map Byte bytes.now)
         (state end.old) outside.old (state end.new) outside.new) }
     ensures failed { IfErr result (λ e. Failed O.operated (map Byte bytes.now) e
@@ -70,7 +75,11 @@ fn answer_bytes<H: Head, O: Outside>(end: &mut End<H>, bytes: &[u8], outside: &m
     Ok(())
 }
 
-fn answer_ticks<H: Head, O: Outside>(end: &mut End<H>, ticks: u32, outside: &mut O) -> io::Result<()>
+fn answer_ticks<H: Head, O: Outside>(
+    end: &mut End<H>,
+    ticks: u32,
+    outside: &mut O,
+) -> io::Result<()>
     ensures answered { OnOk result (Answered O.operated (replicate ticks Tick)
         (state end.old) outside.old (state end.new) outside.new) }
     ensures failed { IfErr result (λ e. Failed O.operated (replicate ticks Tick) e
@@ -141,7 +150,12 @@ impl<H: Head> Port<H> {
     /// A turn, after a read of some bytes or of none: each byte in order, then the ticks owed, so that a busy line
     /// does not starve the head and a quiet one gets its completions. What a call sends is written before the next
     /// is made. It tells what ends serving, if anything does.
-    pub fn turn<O: Outside>(&mut self, bytes: &[u8], now: u64, outside: &mut O) -> io::Result<Option<Finish>>
+    pub fn turn<O: Outside>(
+        &mut self,
+        bytes: &[u8],
+        now: u64,
+        outside: &mut O,
+    ) -> io::Result<Option<Finish>>
         ensures answered { OnOk result (Answered O.operated (calls_in bytes.now (owed (box self.old).ticks now))
             (box self.old).end outside.old (box self.new).end outside.new) }
         ensures failed { IfErr result (λ e. Failed O.operated (calls_in bytes.now (owed (box self.old).ticks now)) e

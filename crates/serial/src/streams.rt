@@ -42,10 +42,7 @@ fn write_some<W: Write>(output: &mut W, bytes: &[u8]) -> io::Result<usize>
     ensures none { OnErr result (Appends (W.contents output.old) (W.contents output.new) []) }
 {
     match output.write(bytes) {
-        Ok(0) => Err(io::Error::new(
-            ErrorKind::WriteZero,
-            "nothing more can be written",
-        )),
+        Ok(0) => Err(io::Error::new(ErrorKind::WriteZero, "nothing more can be written")),
         Err(error) if error.kind() == ErrorKind::Interrupted => Ok(0),
         written => written,
     }

@@ -8,7 +8,7 @@ pub loop-preserved : goal.loop-preserved
 loop-preserved g c = answered_as (more_ticks c.loop.counter) (answered_both c.loop.invariant c.in_ok-answer_tick.ensures.answered)
 
 pub returns-in_err-answer_tick-clause-failed : goal.returns-in_err-answer_tick-clause-failed
-returns-in_err-answer_tick-clause-failed g c = 
+returns-in_err-answer_tick-clause-failed g c =
     handed_on c.from_residual.result _ c.from_residual.ensures.1
     (failed_as (ticks_parted c.loop.counter c.args.ticks c.loop-test.true)
     (failed_before _ (failed_behind c.loop.invariant c.in_err-answer_tick.ensures.failed)))

@@ -13,7 +13,8 @@ returns-then-not-is_interrupted-clause-unbroken g c =
 
 pub loop-read-preserved : goal.loop-read-preserved
 loop-read-preserved g c =
-    let asks : length c.loop-read.buffer ≡ 256 = search rules in
-    (broken c.read-read.result c.read-read.new.buffer c.is_interrupted.result c.loop-read.invariant.0 c.is_interrupted.ensures.none c.is_interrupted.ensures.signal
-    c.if-not-is_interrupted.false (rw asks at c.read-read.ensures.operated),
-    let l = no_more_by g.O.Outside.known g.met.O.Outside.means c.read-read.ensures.operated in omega arith)
+    let asks : length c.loop-read.buffer ≡ 256 = search rules in (
+      broken c.read-read.result c.read-read.new.buffer c.is_interrupted.result c.loop-read.invariant.0 c.is_interrupted.ensures.none c.is_interrupted.ensures.signal
+          c.if-not-is_interrupted.false (rw asks at c.read-read.ensures.operated),
+      let l = no_more_by g.O.Outside.known g.met.O.Outside.means c.read-read.ensures.operated in omega arith,
+    )
