@@ -4,8 +4,8 @@
 #![tactic(auto)]
 
 #[cfg(test)]
+mod bench;
+#[cfg(test)]
 mod called;
 #[cfg(test)]
 mod r3;
-#[cfg(test)]
-mod scripts;
