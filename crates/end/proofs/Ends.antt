@@ -7,7 +7,7 @@ use Rattle.end.specs.declared.end.End.{End}
 use Rattle.end.specs.declared.faults.Cause.{Cause}
 use Rattle.end.specs.declared.faults.Fault.{Fault}
 use Rattle.end.specs.declared.socket.Sockets.{Sockets}
-use Rattle.end.specs.Deeds.{Deed, nothing, clears, cancels, starts, displaces, ticks, DropsBoth, Starts, HeadCalls, DidHead, Unchanged, Cleared, Given, endings_in, none_ended, other}
+use Rattle.end.specs.Deeds.{Deed, nothing, clears, cancels, starts, displaces, ticks, DropsBoth, Starts, HeadCalls, DidHead, Unchanged, MadeIdle, Given, endings_in, none_ended, other_socket}
 use Rattle.end.specs.Ends.{CameWith, CameOf}
 use Rattle.end.specs.Faults.{answered, count_told}
 use Rattle.end.specs.Outcomes.{Outcome, framed, met, requested, commanded, taken, ticked, answer_with}
@@ -28,7 +28,7 @@ use Rattle.rows.specs.declared.command.Command as says
 use Rattle.rows.specs.Orders.{order_of, subject}
 use Rattle.rows.specs.Requests.{read_body}
 use Rattle.rules.specs.declared.ring.Rule.{Rule}
-use Rattle.rules.specs.declared.ring.Rule.TheVariants.{TakenOff, AddressSet, ClearedForAll, SentOn, Cleared as ClearedHere, Cancelled, Requested}
+use Rattle.rules.specs.declared.ring.Rule.TheVariants.{TakenOff, AddressSet, ClearedForAll, SentOn, Cleared, Cancelled, Requested}
 use Rattle.rules.specs.Modes.{forbidden_by}
 use Rattle.rules.specs.Ring.{rule_of}
 use Rattle.wire.specs.Framing.{Held, Event, held_after, event}
@@ -52,7 +52,7 @@ module _ {H : Type 0} (h : HeadGhosts H) (l : LookGhosts H) where
   }
 
   module _ (law : Means) where
-    pub cleared : (x x' : H) → DropsBoth h.dropped x x' → Cleared (means x) (means x')
+    pub cleared : (x x' : H) → DropsBoth h.dropped x x' → MadeIdle (means x) (means x')
     cleared x x' d =
         let one = law.drop x 1 d.between d.one in
         let two = law.drop d.between 2 x' d.two in
@@ -85,7 +85,7 @@ untold_either true o o' e e' = e
 untold_either false o o' e e' = e'
 
 untold_taken : (a : ℕ) (k : Sockets) (y : ℕ) (o : Order) → Untold (taken a k y o)
-untold_taken a k y o = untold_either (in_use (socket_at k (other y)) o) _ _ (silent refl) (silent refl)
+untold_taken a k y o = untold_either (in_use (socket_at k (other_socket y)) o) _ _ (silent refl) (silent refl)
 
 untold_command : (a : ℕ) (m : Meaning) (k : Sockets) (c : says.Command) → Untold (commanded a m k c)
 untold_command a m k c =
@@ -102,7 +102,7 @@ untold_met a m k p TakenOff = silent refl
 untold_met a m k p (AddressSet w) = silent refl
 untold_met a m k p ClearedForAll = silent refl
 untold_met a m k p SentOn = silent refl
-untold_met a m k p ClearedHere = silent refl
+untold_met a m k p Cleared = silent refl
 untold_met a m k p (Cancelled y) = untold_either (is_open (socket_at k y)) _ _ (silent refl) (silent refl)
 untold_met a m k p Requested = untold_request a m k (read_body (body_of p))
 

@@ -2,7 +2,7 @@
 use Rattle.std.proofs.Common.{◌≡◌, ℕ, Bool, true, false, cond, not, ◌⊎◌, List, [], length, Some, None, Option, Ok, Err, Result, sym, ap, ◌∙◌, refl, subst, inl, inr}
 use Rattle.end.specs.declared.socket.Sockets.{Sockets}
 use Rattle.end.specs.Book.{Standing}
-use Rattle.end.specs.Deeds.{Deed, nothing as no_deed, clears, cancels, starts, displaces, ticks, other}
+use Rattle.end.specs.Deeds.{Deed, nothing as no_deed, clears, cancels, starts, displaces, ticks, other_socket}
 use Rattle.end.specs.Faults.{counts}
 use Rattle.end.specs.Outcomes.{sends, Outcome, framed, met, requested, commanded, taken}
 use Rattle.end.specs.Promises.{Comes, come}
@@ -100,7 +100,7 @@ gives_either true o o' e e' = e
 gives_either false o o' e e' = e'
 
 gives_taken : (a : ℕ) (k : Sockets) (y : ℕ) (o : Order) → Gives (Some o) (taken a k y o)
-gives_taken a k y o = gives_either (in_use (socket_at k (other y)) o) _ _ (record { either = inr refl }) (record { either = inr refl })
+gives_taken a k y o = gives_either (in_use (socket_at k (other_socket y)) o) _ _ (record { either = inr refl }) (record { either = inr refl })
 
 gives_command : (a : ℕ) (m : Meaning) (k : Sockets) (c : says.Command) → Gives (Some (order_of c)) (commanded a m k c)
 gives_command a m k c =

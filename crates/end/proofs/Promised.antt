@@ -9,7 +9,7 @@ use Rattle.end.specs.Deeds.{cancels}
 use Rattle.end.specs.Faults.{counts}
 use Rattle.end.specs.Law.{Law, InOrder, InOrderAt, Due, InTime, open_by}
 use Rattle.end.specs.Outcomes.{own, sends, does, framed, met}
-use Rattle.end.specs.Promises.{Number, one, two, seen_at, Ending, ClearedBy, Clearing, Over, OverIn, counted, ticks_in, Comes, come, Silent, ACancelIsNeverRefused, AWholeCancelIsNeverRefused, EveryAcknowledgedCommandIsEnded, WhatIsSentIsWholePackets}
+use Rattle.end.specs.Promises.{IsSocket, one, two, seen_at, EndingAmong, ClearedBy, Clearing, Over, OverIn, counted, ticks_in, Comes, come, Silent, ACancelIsNeverRefused, AWholeCancelIsNeverRefused, EveryAcknowledgedCommandIsEnded, WhatIsSentIsWholePackets}
 use Rattle.end.specs.Records.{Record, book_of}
 use Rattle.end.specs.Runs.{Run}
 use Rattle.end.specs.Runs as runs
@@ -34,10 +34,10 @@ working_open : (x : Seen) (p : List ℕ) (n : ℕ) → x ≡ working p n → ope
 working_open x p n e = rw e refl
 
 -- over the packets that were sent
-still_working : (a y : ℕ) (p q : List ℕ) (n : ℕ) (qs : List (List ℕ)) (x : Seen) → x ≡ working q n → InOrder a y p qs x → Ending a y qs ⊎ (seen_after_replies a y p qs x ≡ working q n)
+still_working : (a y : ℕ) (p q : List ℕ) (n : ℕ) (qs : List (List ℕ)) (x : Seen) → x ≡ working q n → InOrder a y p qs x → EndingAmong a y qs ⊎ (seen_after_replies a y p qs x ≡ working q n)
 still_working a y p q n [] x e d = inr e
 still_working a y p q n (t ∷ qs) x e d = by (said_of a y t) refl (still_working a y p q n qs x e) where
-  by : (w : Said) → said_of a y t ≡ w → (InOrder a y p qs x → Ending a y qs ⊎ (seen_after_replies a y p qs x ≡ working q n)) → Ending a y (t ∷ qs) ⊎ (seen_after_replies a y p (t ∷ qs) x ≡ working q n)
+  by : (w : Said) → said_of a y t ≡ w → (InOrder a y p qs x → EndingAmong a y qs ⊎ (seen_after_replies a y p qs x ≡ working q n)) → EndingAmong a y (t ∷ qs) ⊎ (seen_after_replies a y p (t ∷ qs) x ≡ working q n)
   by acknowledges h held_after =
       let due : open_by x ≡ false = subst (λ (v : Said). Due v x) h d.0 in
       absurd (true≢false (sym (working_open x q n e) ∙ due))
@@ -48,13 +48,13 @@ still_working a y p q n (t ∷ qs) x e d = by (said_of a y t) refl (still_workin
   ]
 
 -- over what the book notes of the call
-module _ (k : Book) (y : ℕ) (number : Number y) (p : List ℕ) (n : ℕ) (at : seen_at k y ≡ working p n) where
-  received : {y : ℕ} → Number y → (st : Standing) (q : List ℕ) (t : Bool) → clearing k.address q ≡ t → (t ≡ true) ⊎ (seen_at (with_packet k st (Some q)) y ≡ seen_at k y)
+module _ (k : Book) (y : ℕ) (number : IsSocket y) (p : List ℕ) (n : ℕ) (at : seen_at k y ≡ working p n) where
+  received : {y : ℕ} → IsSocket y → (st : Standing) (q : List ℕ) (t : Bool) → clearing k.address q ≡ t → (t ≡ true) ⊎ (seen_at (with_packet k st (Some q)) y ≡ seen_at k y)
   received num st q true e = inl refl
   received one st q false e = inr (rw e refl)
   received two st q false e = inr (rw e refl)
 
-  heard_whole : {y : ℕ} → Number y → (st : Standing) → seen_at (with_packet k st None) y ≡ seen_at k y
+  heard_whole : {y : ℕ} → IsSocket y → (st : Standing) → seen_at (with_packet k st None) y ≡ seen_at k y
   heard_whole one st = refl
   heard_whole two st = refl
 
@@ -62,7 +62,7 @@ module _ (k : Book) (y : ℕ) (number : Number y) (p : List ℕ) (n : ℕ) (at :
   heard st None = inr (heard_whole number st ∙ at)
   heard st (Some q) = elim (received number st q (clearing k.address q) refl) [ inl c ↦ inl c | inr g ↦ inr (g ∙ at) ]
 
-  aged : {y : ℕ} → Number y → seen_at k y ≡ working p n → seen_at (after_tick k) y ≡ working p (n + 1)
+  aged : {y : ℕ} → IsSocket y → seen_at k y ≡ working p n → seen_at (after_tick k) y ≡ working p (n + 1)
   aged one e = rw e refl
   aged two e = rw e refl
 
@@ -75,12 +75,12 @@ module _ (k : Book) (y : ℕ) (number : Number y) (p : List ℕ) (n : ℕ) (at :
   noted Open room t = absurd (true≢false (sym t))
 
   -- over the call
-  read_at : {y : ℕ} → Number y → (e : Entry) → accepted e.call e.room ≡ true →
+  read_at : {y : ℕ} → IsSocket y → (e : Entry) → accepted e.call e.room ≡ true →
       seen_at (after_call k e) y ≡ seen_after_replies (before_replies k e.call).address y (before_replies k e.call).last (cut e.sent) (seen_at (before_replies k e.call) y)
   read_at one e t = rw t refl
   read_at two e t = rw t refl
 
-  order_at : {y : ℕ} → Number y → (s : State) (r : Record) (s' : State) → Law k s r s' → accepted r.fed.call r.fed.room ≡ true →
+  order_at : {y : ℕ} → IsSocket y → (s : State) (r : Record) (s' : State) → Law k s r s' → accepted r.fed.call r.fed.room ≡ true →
       InOrderAt k r.fed y (seen_at (before_replies k r.fed.call) y)
   order_at one s r s' l t = l.order_one t
   order_at two s r s' l t = l.order_two t
@@ -108,7 +108,7 @@ module _ (k : Book) (y : ℕ) (number : Number y) (p : List ℕ) (n : ℕ) (at :
 
 -- Over a run.
 
-module _ (m : Meaning) (h : List Record) (y : ℕ) (number : Number y) (p : List ℕ) (n : ℕ) (at : seen_at (book_of h) y ≡ working p n) where
+module _ (m : Meaning) (h : List Record) (y : ℕ) (number : IsSocket y) (p : List ℕ) (n : ℕ) (at : seen_at (book_of h) y ≡ working p n) where
   open_until : (later : List Record) {s : State} → Run m (later ++ h) s → OverIn y h later ⊎ (seen_at (book_of (later ++ h)) y ≡ working p (n + ticks_in later))
   open_until [] r = inr (at ∙ ap (λ (z : ℕ). working p z) (sym (add-zero n)))
   open_until (r ∷ later) (runs.Run.then {s = s} {s' = s'} _ x d _) = elim (open_until later x) [
@@ -119,7 +119,7 @@ module _ (m : Meaning) (h : List Record) (y : ℕ) (number : Number y) (p : List
     ]
   ]
 
-  in_time : {y : ℕ} → Number y → (k : Book) (s : State) → Inv k s → InTime (seen_at k y)
+  in_time : {y : ℕ} → IsSocket y → (k : Book) (s : State) → Inv k s → InTime (seen_at k y)
   in_time one k s i = tied_in_time i.one
   in_time two k s i = tied_in_time i.two
 
@@ -155,24 +155,24 @@ module _ (a : ℕ) (low : a ≤ 7) (has : eqb a 0 ≡ false) where
       let z = eqb-false a 0 has in
       rw e (ne_eqb 0 a (λ q. z (sym q)))
 
-  cancel_rule : {y : ℕ} → Number y → rule_of a (cancel_of a y) ≡ Cancelled y
+  cancel_rule : {y : ℕ} → IsSocket y → rule_of a (cancel_of a y) ≡ Cancelled y
   cancel_rule one = let t = not_taken_off in let u = eq-eqb (0x80 + a) (0x80 + a) refl in rw (has, t, u) refl
   cancel_rule two = let t = not_taken_off in let u = eq-eqb (0x80 + a) (0x80 + a) refl in rw (has, t, u) refl
 
 -- the socket is open by the end too
-open_at : {y : ℕ} → Number y → (k : Book) (s : State) (p : List ℕ) (n : ℕ) → Inv k s → seen_at k y ≡ working p n → is_open (socket_at s.sockets y) ≡ true
+open_at : {y : ℕ} → IsSocket y → (k : Book) (s : State) (p : List ℕ) (n : ℕ) → Inv k s → seen_at k y ≡ working p n → is_open (socket_at s.sockets y) ≡ true
 open_at one k s p n i e = tied_open i.one ∙ ap open_by e
 open_at two k s p n i e = tied_open i.two ∙ ap open_by e
 
-has_address : {y : ℕ} → Number y → (k : Book) (s : State) (p : List ℕ) (n : ℕ) → Inv k s → seen_at k y ≡ working p n → eqb k.address 0 ≡ false
+has_address : {y : ℕ} → IsSocket y → (k : Book) (s : State) (p : List ℕ) (n : ℕ) → Inv k s → seen_at k y ≡ working p n → eqb k.address 0 ≡ false
 has_address one k s p n i e = awake k.address k.one k.two (eqb k.address 0) refl i.asleep (inl (working_open k.one p n e))
 has_address two k s p n i e = awake k.address k.one k.two (eqb k.address 0) refl i.asleep (inr (working_open k.two p n e))
 
-closed_at : {y : ℕ} → Number y → (k : Book) (s : State) (x : Sockets) → Inv k s → s.sockets ≡ with_socket x y None → seen_at k y ≡ closed
+closed_at : {y : ℕ} → IsSocket y → (k : Book) (s : State) (x : Sockets) → Inv k s → s.sockets ≡ with_socket x y None → seen_at k y ≡ closed
 closed_at one k s x i e = closed_tied i.one (ap (λ (z : Sockets). z.one) e)
 closed_at two k s x i e = closed_tied i.two (ap (λ (z : Sockets). z.two) e)
 
-reply_length : {y : ℕ} → Number y → (a : ℕ) → own a (Error y CancelledCommand) ≡ (a + 8) * 16 ∷ (0x60 + y) ∷ 0x04 ∷ 0xff ∷ []
+reply_length : {y : ℕ} → IsSocket y → (a : ℕ) → own a (Error y CancelledCommand) ≡ (a + 8) * 16 ∷ (0x60 + y) ∷ 0x04 ∷ 0xff ∷ []
 reply_length one a = refl
 reply_length two a = refl
 
@@ -208,7 +208,7 @@ record Quiet (m : Meaning) (h : List Record) {s : State} {b : ℕ} (x : Comes s 
   standing : (book_of (come x ∷ h)).standing ≡ st
   seen : seen_at (book_of (come x ∷ h)) y ≡ seen_at (book_of h) y
 
-quiet : (m : Meaning) (h : List Record) (s : State) (b : ℕ) (x : Comes s b) (st : Standing) (y : ℕ) → Number y → Run m h s →
+quiet : (m : Meaning) (h : List Record) (s : State) (b : ℕ) (x : Comes s b) (st : Standing) (y : ℕ) → IsSocket y → Run m h s →
     event s.held b ≡ Ok None → made_whole (book_of h).standing b ≡ None → standing_after (book_of h).standing b ≡ st → Quiet m h x st y
 quiet m h s b x st y number r tells unmade stands =
     let T : Event → Type 0 = λ ev. Came s (held_after s.held b) (framed s.address s.head s.sockets ev) (come x) x.after in
@@ -223,7 +223,7 @@ quiet m h s b x st y number r tells unmade stands =
       seen = seen number c.packets big;
     }
   where
-    seen : {y : ℕ} → Number y → x.sent ≡ [] → leb 16 x.room ≡ true → seen_at (book_of (come x ∷ h)) y ≡ seen_at (book_of h) y
+    seen : {y : ℕ} → IsSocket y → x.sent ≡ [] → leb 16 x.room ≡ true → seen_at (book_of (come x ∷ h)) y ≡ seen_at (book_of h) y
     seen one e big = rw (big, unmade, e) refl
     seen two e big = rw (big, unmade, e) refl
 
@@ -232,7 +232,7 @@ stands_between nowhere e = refl
 stands_between (within plain head high) e = cc
 stands_between passing e = cc
 
-second_byte : {y : ℕ} → Number y → eqb (0x20 + y) 0xff ≡ false
+second_byte : {y : ℕ} → IsSocket y → eqb (0x20 + y) 0xff ≡ false
 second_byte one = refl
 second_byte two = refl
 

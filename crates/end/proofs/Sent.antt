@@ -6,7 +6,7 @@ use Rattle.end.specs.declared.call.Call.{Call}
 use Rattle.end.specs.declared.call.Call.TheVariants.{Byte, Tick, Open}
 use Rattle.end.specs.declared.socket.Sockets.{Sockets}
 use Rattle.end.specs.Book.{Standing}
-use Rattle.end.specs.Deeds.{other}
+use Rattle.end.specs.Deeds.{other_socket}
 use Rattle.end.specs.Faults.{Answer}
 use Rattle.end.specs.Law.{WholePackets}
 use Rattle.end.specs.Records.{Record, record_of}
@@ -102,8 +102,8 @@ module _ (a : ℕ) (low : a ≤ 7) where
   -- a request
   accepted : (k : Sockets) (y : ℕ) (o : Order) → WholePackets 2 (taken a k y o).sent
   accepted k y o =
-      either 2 (in_use (socket_at k (other y)) o) _ _
-      (reply_in_front (Error (other y) CancelledCommand) (own a (Acknowledgement y)) 1 (omega arith) (reply (Acknowledgement y) 0))
+      either 2 (in_use (socket_at k (other_socket y)) o) _ _
+      (reply_in_front (Error (other_socket y) CancelledCommand) (own a (Acknowledgement y)) 1 (omega arith) (reply (Acknowledgement y) 0))
       (reply (Acknowledgement y) 1)
 
   command : (m : Meaning) (k : Sockets) (c : says.Command) → WholePackets 2 (commanded a m k c).sent

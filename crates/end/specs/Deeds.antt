@@ -23,8 +23,8 @@ pub data Deed : Type 0 where
   ticks : Endings → Deed
 
 -- the other socket than y
-abbrev pub other : ℕ → ℕ
-other y = 3 - y
+abbrev pub other_socket : ℕ → ℕ
+other_socket y = 3 - y
 
 -- The head over a deed, by its own values: the calls that it goes through, in order, from x to x'. What a call is to a head
 -- only the head knows, so that only the very calls show these.
@@ -46,7 +46,7 @@ pub record Starts {H : Type 0} (start : StartRelation H) (x : H) (y : ℕ) (o : 
 pub record DropsAndStarts {H : Type 0} (drop : H → ℕ → H → Type 0) (start : StartRelation H)
     (x : H) (y : ℕ) (o : Order) (x' : H) : Type 0 where
   pub between : H
-  pub dropped : drop x (other y) between
+  pub dropped : drop x (other_socket y) between
   pub starts : Starts start between y o x'
 
 abbrev pub HeadCalls : {H : Type 0} → Ghosts H → Deed → H → H → Type 0
@@ -68,7 +68,7 @@ abbrev pub both_idle : Slots
 both_idle = record { one = idle; two = idle }
 
 -- both slots idle, and all else as before
-pub record Cleared (m m' : Meaning) : Type 0 where
+pub record MadeIdle (m m' : Meaning) : Type 0 where
   pub kept : Kept m m'
   pub slots : m'.slots ≡ both_idle
 
@@ -79,12 +79,12 @@ pub record Given (m : Meaning) (y : ℕ) (o : Order) (m' : Meaning) : Type 0 whe
 -- first the other slot is dropped
 pub record Displaced (m : Meaning) (y : ℕ) (o : Order) (m' : Meaning) : Type 0 where
   pub between : Meaning
-  pub dropped : Dropped m (other y) between
+  pub dropped : Dropped m (other_socket y) between
   pub given : Given between y o m'
 
 abbrev pub DidHead : Deed → Meaning → Meaning → Type 0
 DidHead nothing m m' = Unchanged m m'
-DidHead clears m m' = Cleared m m'
+DidHead clears m m' = MadeIdle m m'
 DidHead (cancels y) m m' = Dropped m y m'
 DidHead (starts y o) m m' = Given m y o m'
 DidHead (displaces y o) m m' = Displaced m y o m'
@@ -101,7 +101,7 @@ sockets_after nothing k = k
 sockets_after clears k = both_closed
 sockets_after (cancels y) k = with_socket k y None
 sockets_after (starts y o) k = with_socket k y (Some o)
-sockets_after (displaces y o) k = with_socket (with_socket k (other y) None) y (Some o)
+sockets_after (displaces y o) k = with_socket (with_socket k (other_socket y) None) y (Some o)
 sockets_after (ticks e) k = record { one = settled e.one k.one; two = settled e.two k.two }
 
 abbrev pub none_ended : Endings

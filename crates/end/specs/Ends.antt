@@ -33,7 +33,7 @@ HandsBack {h = h} x given = HeadCalls h clears x.head given
 
 -- a tick: with the endings that the head told it is a step and keeps the law, and the head went through this one tick, or
 -- through none if the tick is refused
-pub record Ticks {H : Type 0} {h : HeadGhosts H} {l : LookGhosts H}
+pub record TickMade {H : Type 0} {h : HeadGhosts H} {l : LookGhosts H}
     (x : End H h l) (old : List ℕ) (r : Result ℕ Fault) (new : List ℕ) (x' : End H h l) : Type 0 where
   pub endings : Endings
   pub step : Step (state x) (call_record Tick old r new endings) (state x')

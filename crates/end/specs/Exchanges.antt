@@ -22,21 +22,21 @@ use Rattle.wire.specs.Framing.{none, held_after}
 
 -- a head with pan and tilt and first values: power is on, and freeze off. No tick comes between the bytes, so that no
 -- setting changes.
-abbrev first : Meaning
-first = record { setting = λ s. (about s).first; pantilt = true; slots = both_idle }
+abbrev new_head : Meaning
+new_head = record { setting = λ s. (about s).first; pantilt = true; slots = both_idle }
 
 -- an end with this address, no packet begun and both sockets closed
 abbrev at_address : ℕ → State
-at_address a = record { head = first; address = a; held = none; sockets = both_closed }
+at_address a = record { head = new_head; address = a; held = none; sockets = both_closed }
 
-abbrev after : State → ℕ → State
-after s b =
+abbrev state_after_byte : State → ℕ → State
+state_after_byte s b =
     let o = heard_in s b in
     record { head = s.head; address = o.address; held = held_after s.held b; sockets = sockets_after o.deed s.sockets }
 
-abbrev after_bytes : State → List ℕ → State
-after_bytes s [] = s
-after_bytes s (b ∷ bs) = after_bytes (after s b) bs
+abbrev state_after_bytes : State → List ℕ → State
+state_after_bytes s [] = s
+state_after_bytes s (b ∷ bs) = state_after_bytes (state_after_byte s b) bs
 
 -- an order that is given: the slot, the targets and the paces
 pub record OrderGiven : Type 0 where
@@ -50,15 +50,15 @@ pub record Effects : Type 0 where
   pub faults : List FaultCode
   pub sent : List ℕ
 
-abbrev given : ℕ → Order → List OrderGiven
-given y o = record { slot = y; targets = parts o.targets; paces = o.paces } ∷ []
+abbrev order_given : ℕ → Order → List OrderGiven
+order_given y o = record { slot = y; targets = parts o.targets; paces = o.paces } ∷ []
 
 abbrev orders_in : Deed → List OrderGiven
 orders_in nothing = []
 orders_in clears = []
 orders_in (cancels y) = []
-orders_in (starts y o) = given y o
-orders_in (displaces y o) = given y o
+orders_in (starts y o) = order_given y o
+orders_in (displaces y o) = order_given y o
 orders_in (ticks e) = []
 
 abbrev codes_of : Option Cause → List FaultCode
@@ -69,7 +69,7 @@ abbrev effects : State → List ℕ → Effects
 effects s [] = record { orders = []; faults = []; sent = [] }
 effects s (b ∷ bs) =
     let o = heard_in s b in
-    let e = effects (after s b) bs in
+    let e = effects (state_after_byte s b) bs in
     record { orders = orders_in o.deed ++ e.orders; faults = codes_of o.fault ++ e.faults; sent = o.sent ++ e.sent }
 
 -- packets that come one behind the other at an end with this address, with what comes of each, and the address then
@@ -80,15 +80,15 @@ pub record Exchange : Type 0 where
 
 abbrev effects_of : State → List (List ℕ × Effects) → List Effects
 effects_of s [] = []
-effects_of s (p ∷ ps) = effects s p.0 ∷ effects_of (after_bytes s p.0) ps
+effects_of s (p ∷ ps) = effects s p.0 ∷ effects_of (state_after_bytes s p.0) ps
 
 abbrev effects_told : List (List ℕ × Effects) → List Effects
 effects_told [] = []
 effects_told (p ∷ ps) = p.1 ∷ effects_told ps
 
-abbrev state_after : State → List (List ℕ × Effects) → State
-state_after s [] = s
-state_after s (p ∷ ps) = state_after (after_bytes s p.0) ps
+abbrev state_after_packets : State → List (List ℕ × Effects) → State
+state_after_packets s [] = s
+state_after_packets s (p ∷ ps) = state_after_packets (state_after_bytes s p.0) ps
 
 -- The table.
 
@@ -96,8 +96,8 @@ state_after s (p ∷ ps) = state_after (after_bytes s p.0) ps
 abbrev gives : ℕ → List Target → Paces → List ℕ → Effects
 gives y ts ps sent = record { orders = record { slot = y; targets = ts; paces = ps } ∷ []; faults = []; sent = sent }
 
-abbrev tells : FaultCode → List ℕ → Effects
-tells f sent = record { orders = []; faults = f ∷ []; sent = sent }
+abbrev faulty : FaultCode → List ℕ → Effects
+faulty f sent = record { orders = []; faults = f ∷ []; sent = sent }
 
 abbrev only_sends : List ℕ → Effects
 only_sends sent = record { orders = []; faults = []; sent = sent }
@@ -189,14 +189,14 @@ exchanges =
     ∷ one_packet (0x81 ∷ 0x01 ∷ 0x04 ∷ 0x47 ∷ 0x02 ∷ 0x01 ∷ 0x00 ∷ 0x00 ∷ 0x00 ∷ 0xff ∷ []) (zoom_given 3)
     -- zoom 4000 is admitted, and 4001 is not
     ∷ one_packet (zoom_to 4 0 0 0) (gives 1 (to Zoom (pos 16384) ∷ to ZoomDrive (pos 0) ∷ []) (paces 4 0 0) ack_1)
-    ∷ one_packet (zoom_to 4 0 0 1) (tells (fault_code 7 layer.Row 4) syntax)
+    ∷ one_packet (zoom_to 4 0 0 1) (faulty (fault_code 7 layer.Row 4) syntax)
     -- pan -5,120 is admitted, and a pan one below is not
     ∷ one_packet (pan_to 0x0e 0x0c 0 0 (0xff ∷ [])) pan_given
-    ∷ one_packet (pan_to 0x0e 0x0b 0x0f 0x0f (0xff ∷ [])) (tells (fault_code 7 layer.Row 4) syntax)
+    ∷ one_packet (pan_to 0x0e 0x0b 0x0f 0x0f (0xff ∷ [])) (faulty (fault_code 7 layer.Row 4) syntax)
     -- sixteen bytes that end in FF are whole, here of a row that has fewer operands; with another last byte they are too
     -- long, which is not answered
-    ∷ one_packet (pan_to 0x0e 0x0c 0 0 (0x00 ∷ 0xff ∷ [])) (tells (fault_code 7 layer.Row 4) syntax)
-    ∷ one_packet (pan_to 0x0e 0x0c 0 0 (0x00 ∷ 0x00 ∷ [])) (tells (fault_code 4 layer.Framing 15) [])
+    ∷ one_packet (pan_to 0x0e 0x0c 0 0 (0x00 ∷ 0xff ∷ [])) (faulty (fault_code 7 layer.Row 4) syntax)
+    ∷ one_packet (pan_to 0x0e 0x0c 0 0 (0x00 ∷ 0x00 ∷ [])) (faulty (fault_code 4 layer.Framing 15) [])
     -- address 7 is set, and the next end is offered 8; 8 is no address, and is sent on
     ∷ leaving 1 ((address_to 7, only_sends (address_to 8)) ∷ []) 7
     ∷ leaving 1 ((address_to 8, only_sends (address_to 8)) ∷ []) 1
@@ -212,10 +212,10 @@ abbrev AllAsTold : List Exchange → Type 0
 AllAsTold [] = Unit {0}
 AllAsTold (x ∷ xs) =
     (effects_of (at_address x.address) x.packets ≡ effects_told x.packets)
-    × ((state_after (at_address x.address) x.packets).address ≡ x.leaves)
+    × ((state_after_packets (at_address x.address) x.packets).address ≡ x.leaves)
     × AllAsTold xs
 
 pub record TriedExchangesHold : Type 0 where
-  pub power_on : first.setting Power ≡ pos 2
-  pub freeze_off : first.setting Freeze ≡ pos 3
+  pub power_on : new_head.setting Power ≡ pos 2
+  pub freeze_off : new_head.setting Freeze ≡ pos 3
   pub as_told : AllAsTold exchanges

@@ -4,7 +4,7 @@ use Rattle.std.specs.Prelude.{ℕ, ◌+◌, ◌*◌, if◌then◌else◌, not, L
 use Rattle.end.specs.declared.faults.Cause.{Cause}
 use Rattle.end.specs.declared.faults.Cause.TheVariants.{Framing, Packet}
 use Rattle.end.specs.declared.socket.Sockets.{Sockets}
-use Rattle.end.specs.Deeds.{Deed, nothing, clears, cancels, starts, displaces, ticks, other}
+use Rattle.end.specs.Deeds.{Deed, nothing, clears, cancels, starts, displaces, ticks, other_socket}
 use Rattle.end.specs.Faults.{Answer, counts, faults, cause_code}
 use Rattle.end.specs.Sockets.{is_open, socket_at, finds_room, free, powering_in}
 use Rattle.head.specs.declared.order.Order.{Order}
@@ -54,8 +54,8 @@ own a r = packet (own_header a) r
 -- a command that gets socket y; one in the other socket that names a common setting is displaced, which is told first
 abbrev pub taken : ℕ → Sockets → ℕ → Order → Outcome
 taken a k y o =
-    if in_use (socket_at k (other y)) o
-    then does a (displaces y o) (own a (Error (other y) CancelledCommand) ++ own a (Acknowledgement y))
+    if in_use (socket_at k (other_socket y)) o
+    then does a (displaces y o) (own a (Error (other_socket y) CancelledCommand) ++ own a (Acknowledgement y))
     else does a (starts y o) (own a (Acknowledgement y))
 
 -- an admitted command

@@ -14,9 +14,9 @@ use Rattle.end.specs.Steps.{Step}
 use Rattle.head.specs.Meaning.{Meaning}
 
 -- socket 1 or 2 by the book
-pub data Number : ℕ → Type 0 where
-  one : Number 1
-  two : Number 2
+pub data IsSocket : ℕ → Type 0 where
+  one : IsSocket 1
+  two : IsSocket 2
 
 abbrev pub seen_at : Book → ℕ → Seen
 seen_at k y = if y == 1 then k.one else k.two
@@ -50,7 +50,7 @@ pub record Cancels (h : List Record) (y : ℕ) {s : State} {b : ℕ} (x : Comes 
 abbrev pub ACancelIsNeverRefused : Type 0
 ACancelIsNeverRefused =
     (m : Meaning) (h : List Record) (s : State) → Run m h s →
-    (y : ℕ) → Number y → (p : List ℕ) (n : ℕ) → seen_at (book_of h) y ≡ working p n →
+    (y : ℕ) → IsSocket y → (p : List ℕ) (n : ℕ) → seen_at (book_of h) y ≡ working p n →
     (book_of h).standing ≡ inside ((0x80 + (book_of h).address) ∷ (0x20 + y) ∷ []) → (x : Comes s 0xff) → Cancels h y x
 
 -- In any run, with socket Y open by the book and no packet begun, of the bytes 8a 2Y FF the first two are silent, which leaves
@@ -65,14 +65,14 @@ pub record CancelledBy (h : List Record) (y : ℕ) {s : State} {b₁ b₂ b₃ :
 abbrev pub AWholeCancelIsNeverRefused : Type 0
 AWholeCancelIsNeverRefused =
     (m : Meaning) (h : List Record) (s : State) → Run m h s →
-    (y : ℕ) → Number y → (p : List ℕ) (n : ℕ) → seen_at (book_of h) y ≡ working p n → (book_of h).standing ≡ between →
+    (y : ℕ) → IsSocket y → (p : List ℕ) (n : ℕ) → seen_at (book_of h) y ≡ working p n → (book_of h).standing ≡ between →
     (x₁ : Comes s (0x80 + (book_of h).address)) (x₂ : Comes x₁.after (0x20 + y)) (x₃ : Comes x₂.after 0xff) →
     CancelledBy h y x₁ x₂ x₃
 
 -- An acknowledged command. A call sends an ending of socket y, or makes a clearing whole; k is the book before it.
-abbrev pub Ending : ℕ → ℕ → List (List ℕ) → Type 0
-Ending a y [] = ⊥
-Ending a y (q ∷ qs) = (said_of a y q ≡ ends) ⊎ Ending a y qs
+abbrev pub EndingAmong : ℕ → ℕ → List (List ℕ) → Type 0
+EndingAmong a y [] = ⊥
+EndingAmong a y (q ∷ qs) = (said_of a y q ≡ ends) ⊎ EndingAmong a y qs
 
 abbrev pub ClearedBy : ℕ → Option (List ℕ) → Type 0
 ClearedBy a None = ⊥
@@ -85,7 +85,7 @@ Clearing k Open = ⊥
 
 pub record Over (k : Book) (y : ℕ) (e : Entry) : Type 0 where
   pub taken : accepted e.call e.room ≡ true
-  pub how : Ending (before_replies k e.call).address y (cut e.sent) ⊎ Clearing k e.call
+  pub how : EndingAmong (before_replies k e.call).address y (cut e.sent) ⊎ Clearing k e.call
 
 -- some call of `later`, which came behind the run h, does so; the newest stands first
 abbrev pub OverIn : ℕ → List Record → List Record → Type 0
@@ -107,7 +107,7 @@ ticks_in (r ∷ later) = ticks_in later + counted r.fed.call r.fed.room
 abbrev pub EveryAcknowledgedCommandIsEnded : Type 0
 EveryAcknowledgedCommandIsEnded =
     (m : Meaning) (h later : List Record) (s : State) → Run m (later ++ h) s →
-    (y : ℕ) → Number y → (p : List ℕ) (n : ℕ) → seen_at (book_of h) y ≡ working p n →
+    (y : ℕ) → IsSocket y → (p : List ℕ) (n : ℕ) → seen_at (book_of h) y ≡ working p n →
     1000 ≤ ticks_in later → OverIn y h later
 
 -- In any run, what a call sends is whole packets, at most two of them.

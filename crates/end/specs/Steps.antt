@@ -4,7 +4,7 @@ use Rattle.end.specs.declared.call.Call.{Call}
 use Rattle.end.specs.declared.call.Call.TheVariants.{Byte, Tick, Open}
 use Rattle.end.specs.declared.faults.Cause.TheVariants.{ShortBuffer}
 use Rattle.end.specs.Book.{accepted}
-use Rattle.end.specs.Deeds.{Deed, nothing, ticks, DidHead, sockets_after, endings_in, none_ended, Cleared, Unchanged}
+use Rattle.end.specs.Deeds.{Deed, nothing, ticks, DidHead, sockets_after, endings_in, none_ended, MadeIdle, Unchanged}
 use Rattle.end.specs.Faults.{opens}
 use Rattle.end.specs.Outcomes.{Outcome, fails, framed, ticked, answer_of}
 use Rattle.end.specs.Records.{Record}
@@ -63,7 +63,7 @@ Step s r s' = StepOf r.fed.call s r s'
 
 -- an end just made of a head: its slots are dropped, it has no address, no packet is begun and both sockets are closed
 pub record Made (m : Meaning) (s : State) : Type 0 where
-  pub head : Cleared m s.head
+  pub head : MadeIdle m s.head
   pub address : s.address ≡ 0
   pub held : s.held ≡ none
   pub sockets : s.sockets ≡ both_closed

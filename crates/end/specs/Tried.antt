@@ -46,8 +46,8 @@ abbrev reading : List Part → ℕ → Seen → Seen → Reading
 reading ps a x y = record { parts = ps; address = a; one = x; two = y }
 
 -- address 1 is set, and a zoom is acknowledged in socket 1
-abbrev begun : List Part → List Part
-begun ps = comes (address_to 1) (address_to 2) ∷ comes zoom ack_1 ∷ ps
+abbrev with_zoom_open : List Part → List Part
+with_zoom_open ps = comes (address_to 1) (address_to 2) ∷ comes zoom ack_1 ∷ ps
 
 -- a clear with this header
 abbrev clear_at : ℕ → List ℕ
@@ -66,25 +66,25 @@ said_by_others = comes (clear_at 0x82) (clear_at 0x82) ∷ comes (0xa0 ∷ 0x51 
 abbrev pub readings : List Reading
 readings =
     reading [] 0 closed closed
-    ∷ reading (begun []) 1 (working zoom 0) closed
+    ∷ reading (with_zoom_open []) 1 (working zoom 0) closed
     -- only accepted ticks count, and asking is nothing to the book
-    ∷ reading (begun (ticks [] ∷ short_tick ∷ asks ∷ ticks [] ∷ [])) 1 (working zoom 2) closed
+    ∷ reading (with_zoom_open (ticks [] ∷ short_tick ∷ asks ∷ ticks [] ∷ [])) 1 (working zoom 2) closed
     -- the three endings close their socket, and not the other
-    ∷ reading (begun (comes mute ack_2 ∷ ticks (0x90 ∷ 0x52 ∷ 0xff ∷ []) ∷ [])) 1 (working zoom 1) closed
-    ∷ reading (begun (comes mute ack_2 ∷ ticks (0x90 ∷ 0x61 ∷ 0x41 ∷ 0xff ∷ []) ∷ [])) 1 closed (working mute 1)
-    ∷ reading (begun (comes (0x81 ∷ 0x21 ∷ 0xff ∷ []) (0x90 ∷ 0x61 ∷ 0x04 ∷ 0xff ∷ []) ∷ [])) 1 closed closed
+    ∷ reading (with_zoom_open (comes mute ack_2 ∷ ticks (0x90 ∷ 0x52 ∷ 0xff ∷ []) ∷ [])) 1 (working zoom 1) closed
+    ∷ reading (with_zoom_open (comes mute ack_2 ∷ ticks (0x90 ∷ 0x61 ∷ 0x41 ∷ 0xff ∷ []) ∷ [])) 1 closed (working mute 1)
+    ∷ reading (with_zoom_open (comes (0x81 ∷ 0x21 ∷ 0xff ∷ []) (0x90 ∷ 0x61 ∷ 0x04 ∷ 0xff ∷ []) ∷ [])) 1 closed closed
     -- an ending and an acknowledgement, read in turn
-    ∷ reading (begun (comes zoom_stop (0x90 ∷ 0x61 ∷ 0x04 ∷ 0xff ∷ ack_2) ∷ [])) 1 closed (working zoom_stop 0)
+    ∷ reading (with_zoom_open (comes zoom_stop (0x90 ∷ 0x61 ∷ 0x04 ∷ 0xff ∷ ack_2) ∷ [])) 1 closed (working zoom_stop 0)
     -- the counts rise before the packets of a tick are read
-    ∷ reading (begun (ticks (0x90 ∷ 0x51 ∷ 0xff ∷ 0x90 ∷ 0x42 ∷ 0xff ∷ []) ∷ [])) 1 closed (working zoom 0)
+    ∷ reading (with_zoom_open (ticks (0x90 ∷ 0x51 ∷ 0xff ∷ 0x90 ∷ 0x42 ∷ 0xff ∷ []) ∷ [])) 1 closed (working zoom 0)
     -- errors that are no endings
-    ∷ reading (begun other_errors) 1 (working zoom 0) closed
+    ∷ reading (with_zoom_open other_errors) 1 (working zoom 0) closed
     -- the three clearings close both, whatever is sent
-    ∷ reading (begun (comes (clear_at 0x81) (0x90 ∷ 0x50 ∷ 0xff ∷ []) ∷ [])) 1 closed closed
-    ∷ reading (begun (comes (clear_at 0x88) (clear_at 0x88) ∷ [])) 1 closed closed
-    ∷ reading (begun (comes (address_to 1) (address_to 2) ∷ [])) 1 closed closed
+    ∷ reading (with_zoom_open (comes (clear_at 0x81) (0x90 ∷ 0x50 ∷ 0xff ∷ []) ∷ [])) 1 closed closed
+    ∷ reading (with_zoom_open (comes (clear_at 0x88) (clear_at 0x88) ∷ [])) 1 closed closed
+    ∷ reading (with_zoom_open (comes (address_to 1) (address_to 2) ∷ [])) 1 closed closed
     -- a clear for another address is none, nor is what another camera says
-    ∷ reading (begun said_by_others) 1 (working zoom 0) closed
+    ∷ reading (with_zoom_open said_by_others) 1 (working zoom 0) closed
     -- the packets sent are read by the address that was just set
     ∷ reading (comes (address_to 1) (address_to 2) ∷ comes (address_to 2) (0xa0 ∷ 0x41 ∷ 0xff ∷ []) ∷ [])
     2 (working (address_to 2) 0) closed
@@ -93,7 +93,7 @@ readings =
     ∷ reading (comes zoom (0x80 ∷ 0x41 ∷ 0xff ∷ []) ∷ []) 0 closed closed
     -- a packet that is too long is no packet, and the one behind it is read
     ∷ reading
-    (begun (comes (0x81 ∷ 0 ∷ 0 ∷ 0 ∷ 0 ∷ 0 ∷ 0 ∷ 0 ∷ 0 ∷ 0 ∷ 0 ∷ 0 ∷ 0 ∷ 0 ∷ 0 ∷ 0 ∷ 0xff ∷ []) ack_2 ∷ []))
+    (with_zoom_open (comes (0x81 ∷ 0 ∷ 0 ∷ 0 ∷ 0 ∷ 0 ∷ 0 ∷ 0 ∷ 0 ∷ 0 ∷ 0 ∷ 0 ∷ 0 ∷ 0 ∷ 0 ∷ 0 ∷ 0xff ∷ []) ack_2 ∷ []))
     1 (working zoom 0) (working zoom 0)
     ∷ []
 

@@ -47,8 +47,8 @@ fn tell(header: u8, endings: Endings, out: &mut [u8]) -> usize
 }
 
 impl<H: Head> End<H> {
-    ghost use Rattle.end.specs.Deeds.{Cleared};
-    ghost use Rattle.end.specs.Ends.{CameWith, HandsBack, HeadOver, TakesOver, TickCame, Ticks, head_of};
+    ghost use Rattle.end.specs.Deeds.{MadeIdle};
+    ghost use Rattle.end.specs.Ends.{CameWith, HandsBack, HeadOver, TakesOver, TickCame, TickMade, head_of};
     ghost use Rattle.end.specs.Faults.{answered, count_told};
     ghost use Rattle.end.specs.Law.{Keeps};
     ghost use Rattle.end.specs.Records.{byte_record, open_record};
@@ -119,7 +119,7 @@ impl<H: Head> End<H> {
     /// less than 16 bytes is refused, and leaves end and head as they were.
     #[inline(always)]
     pub fn tick(&mut self, out: &mut [u8]) -> Result<usize, Fault>
-        ensures ticked { Ticks self.old out.old result out.new self.new }
+        ensures ticked { TickMade self.old out.old result out.new self.new }
         ensures refused { length out.old < 16 → self.new ≡ self.old }
         ensures untouched { drop (count_told result) out.new ≡ drop (count_told result) out.old }
         ensures within { count_told result ≤ length out.new }
@@ -145,7 +145,7 @@ impl<H: Head> End<H> {
 
     /// Ends the end, drops both slots and hands the head back.
     pub fn take_off(self) -> H
-        ensures cleared { Cleared (state self).head (meaning H.Look H.slots result) }
+        ensures cleared { MadeIdle (state self).head (meaning H.Look H.slots result) }
         ensures head { HandsBack self result }
     {
         let End { head, .. } = self;

@@ -38,7 +38,7 @@ pub(crate) enum Which {
 }
 
 impl Which {
-    ghost use Rattle.end.specs.Deeds.{other as other_of};
+    ghost use Rattle.end.specs.Deeds.{other_socket};
     ghost use Rattle.end.specs.Sockets.{socket_number, socket_numbered};
 
     /// The socket with this number on the line, if there is one.
@@ -60,7 +60,7 @@ impl Which {
     }
 
     pub(crate) fn other(self) -> Which
-        ensures { socket_number result ≡ other_of (socket_number self) }
+        ensures { socket_number result ≡ other_socket (socket_number self) }
     {
         match self {
             Which::One => Which::Two,

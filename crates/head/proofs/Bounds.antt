@@ -1,5 +1,5 @@
 -- What being in range says of a value.
-use Rattle.std.proofs.Common.{◌≡◌, Bool, true, ◌&&◌, ℤ, pos, negsuc, refl, arith}
+use Rattle.std.proofs.Common.{◌≡◌, Bool, true, ◌&&◌, ℤ, pos, negsuc, ◌≤ℤ◌, refl, arith}
 use lib.Signed.{le_z}
 use Rattle.std.proofs.lemmas.Int.{ints}
 use Rattle.std.proofs.lemmas.Bool.{and_parts}
@@ -8,11 +8,16 @@ use Rattle.head.specs.declared.setting.Axis.{Axis}
 use Rattle.head.specs.declared.setting.Range.{Range}
 use Rattle.head.specs.declared.setting.Range.TheVariants.{Switch, WhiteBalance, Exposure, Span}
 use Rattle.head.specs.declared.setting.Setting.{Setting}
-use Rattle.head.specs.Settings.{about, within, in_range, position, Small}
+use Rattle.head.specs.Settings.{about, within, in_range, position}
 use Rattle.head.specs.declared.settings.Settings.{Settings}
 use Rattle.head.specs.Meaning.{Between}
 use Rattle.head.specs.Values.{value_of}
 use Rattle.head.proofs.Tables.{each}
+
+-- the bounds of every value of every setting
+pub record Small (v : ℤ) : Type 0 where
+  pub low : negsuc 5119 ≤ℤ v
+  pub high : v ≤ℤ pos 65535
 
 -- a span within the bounds of small values; a list of values passes
 abbrev narrow : Range → Bool

@@ -1,10 +1,10 @@
 -- What an order names: the value that each setting is to get, by its one to four targets.
-use Rattle.std.specs.Prelude.{Bool, true, not, ◌&&◌, ◌||◌, List, [], ◌∷◌, ℤ, pos}
-use Rattle.std.specs.Prelude.{is_some, Option, slice_index_or, find}
+use Rattle.std.specs.Prelude.{Bool, true, not, ◌&&◌, ◌||◌, List, [], ◌∷◌, ℤ}
+use Rattle.std.specs.Prelude.{is_some, Option, find}
 use Rattle.std.specs.List.{list_all, list_any}
 use Rattle.std.specs.Option.{option_map}
 use Rattle.head.specs.declared.setting.Setting.{Setting}
-use Rattle.head.specs.declared.setting.Setting.TheVariants.{Power, Pan, Tilt, PanDrive, TiltDrive}
+use Rattle.head.specs.declared.setting.Setting.TheVariants.{Pan, Tilt, PanDrive, TiltDrive}
 use Rattle.head.specs.declared.target.Target.{Target}
 use Rattle.head.specs.declared.target.Targets.{Targets}
 use Rattle.head.specs.declared.target.Targets.TheVariants.{One, Two, Three, Four}
@@ -15,10 +15,6 @@ parts (One ts) = ts
 parts (Two ts) = ts
 parts (Three ts) = ts
 parts (Four ts) = ts
-
--- the target that stands first; there always is one, so what stands here for none is never told
-abbrev pub leading : Targets → Target
-leading ts = slice_index_or (parts ts) 0 (record { setting = Power; value = pos 0 })
 
 -- the value that a setting is to get, if it is named
 abbrev pub wants : List Target → Setting → Option ℤ

@@ -1,5 +1,5 @@
 -- The settings: number, range, axis and first value of each, and what being in range means.
-use Rattle.std.specs.Prelude.{ℕ, Bool, false, ◌&&◌, ◌||◌, List, [], ◌∷◌, ℤ, pos, negsuc, ◌≤ℤ◌, Some, None, Option}
+use Rattle.std.specs.Prelude.{ℕ, Bool, false, ◌&&◌, ◌||◌, List, [], ◌∷◌, ℤ, pos, negsuc, Some, None, Option}
 use Rattle.std.specs.Prelude.{◌==◌, int_le, slice_get, slice_index_or}
 use Rattle.std.specs.Option.{option_map}
 use Rattle.head.specs.declared.setting.Setting.{Setting}
@@ -82,11 +82,6 @@ within (Span low high) v = int_le low v && int_le v high
 -- shut, since a search through several of them breaks off at a bound
 unfoldable pub in_range : Setting → ℤ → Bool
 in_range s v = within (about s).range v
-
--- the bounds of every value of every setting
-pub record Small (v : ℤ) : Type 0 where
-  pub low : negsuc 5119 ≤ℤ v
-  pub high : v ≤ℤ pos 65535
 
 -- the value of a setting in a list by number
 abbrev pub value_in : List ℤ → Setting → ℤ

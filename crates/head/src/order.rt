@@ -35,7 +35,7 @@ fn differ(targets: &[Target]) -> bool
 
 impl Order {
     ghost use Rattle.head.specs.Made.{made};
-    ghost use Rattle.head.specs.Orders.{leading, wants, any_pan_tilt, shares};
+    ghost use Rattle.head.specs.Orders.{wants, any_pan_tilt, shares};
 
     /// An order of these targets; none if a setting is named twice.
     pub fn new(targets: Targets, paces: Paces) -> Option<Order>
@@ -46,13 +46,6 @@ impl Order {
         } else {
             None
         }
-    }
-
-    /// The target that stands first.
-    pub fn first(&self) -> Target
-        ensures { result ≡ leading self.now.targets }
-    {
-        self.targets.as_slice()[0]
     }
 
     /// The value that the setting is to get, if the order names it.

@@ -22,7 +22,7 @@ use Rattle.heads.specs.declared.rig.Rig.{Rig}
 use Rattle.head.specs.Work.{slot_of}
 use Rattle.heads.specs.Exact.{is_done, pulled, unnamed, or_value, value_after}
 use Rattle.head.specs.Works.{slots_of}
-use Rattle.heads.specs.Rigs.{target_given, closed, or, taken_by_orders, followed, MovesOnly}
+use Rattle.heads.specs.Rigs.{target_given, set_when_done, or, taken_by_orders, followed, MovesOnly}
 
 same_sym : (s z : Setting) → same s z ≡ same z s
 same_sym s z = grind (arith, same_is s z, same_is z s)
@@ -51,11 +51,11 @@ moves_all : (f g : Setting → ℤ) (s : Setting) → positions f g s ≡ cond (
 moves_all f g s = grind arith
 
 -- a slot's order that is done gives another setting its target
-closes : (b : Slot) (e : Option Ending) (s : Setting) (v : ℤ) → (about s).axis ≡ None → closed b e s v ≡ cond (is_done e) (or_value (wanted b s) v) v
+closes : (b : Slot) (e : Option Ending) (s : Setting) (v : ℤ) → (about s).axis ≡ None → set_when_done b e s v ≡ cond (is_done e) (or_value (wanted b s) v) v
 closes idle e s v i = grind arith
 closes (busy o n) e s v i = simp i
 
-stays : (b : Slot) (e : Option Ending) (s : Setting) (a : Axis) (v : ℤ) → (about s).axis ≡ Some a → closed b e s v ≡ v
+stays : (b : Slot) (e : Option Ending) (s : Setting) (a : Axis) (v : ℤ) → (about s).axis ≡ Some a → set_when_done b e s v ≡ v
 stays idle e s a v i = refl
 stays (busy o n) e s a v i = simp i (grind arith)
 
@@ -86,18 +86,18 @@ ordered_next m b e f s t h = by (pulled m b.one e.one s (f s)) (pulled m b.two e
 
 -- positions moved, and then the targets of each order that is done
 pub advanced_is : (m : Motion) (b : Slots) (e : Endings) (f : Setting → ℤ) (s : Setting) → Apart b.one b.two
-    → closed b.two e.two s (closed b.one e.one s (cond (is_some (about s).axis) (value_after m b e f s) (f s))) ≡ value_after m b e f s
+    → set_when_done b.two e.two s (set_when_done b.one e.one s (cond (is_some (about s).axis) (value_after m b e f s) (f s))) ≡ value_after m b e f s
 advanced_is m b e f s apart = by (about s).axis refl
   where
     g : Setting → ℤ
     g = value_after m b e f
 
-    by : (x : Option Axis) → (about s).axis ≡ x → closed b.two e.two s (closed b.one e.one s (cond (is_some x) (g s) (f s))) ≡ g s
+    by : (x : Option Axis) → (about s).axis ≡ x → set_when_done b.two e.two s (set_when_done b.one e.one s (cond (is_some x) (g s) (f s))) ≡ g s
     by None i =
-        ap (closed b.two e.two s) (closes b.one e.one s (f s) i) ∙ closes b.two e.two s (cond (is_done e.one) (or_value (wanted b.one s) (f s)) (f s)) i
+        ap (set_when_done b.two e.two s) (closes b.one e.one s (f s) i) ∙ closes b.two e.two s (cond (is_done e.one) (or_value (wanted b.one s) (f s)) (f s)) i
         ∙ in_turn (is_done e.one) (is_done e.two) (wanted b.one s) (wanted b.two s) (f s) (apart s)
         ∙ sym (simp (pulls m b.one e.one s (f s) i, pulls m b.two e.two s (f s) i, i))
-    by (Some a) i = ap (closed b.two e.two s) (stays b.one e.one s a (g s) i) ∙ stays b.two e.two s a (g s) i
+    by (Some a) i = ap (set_when_done b.two e.two s) (stays b.one e.one s a (g s) i) ∙ stays b.two e.two s a (g s) i
 
 -- targets of which none is of a position want none
 none_wanted : (ts : List Target) (s : Setting) (a : Axis) → list_any (λ t. is_some (about t.setting).axis) ts ≡ false → (about s).axis ≡ Some a → wants ts s ≡ None

@@ -12,7 +12,7 @@ use Rattle.head.specs.declared.work.Work.{Work}
 use Rattle.heads.specs.declared.motion.Motion.{Motion}
 use Rattle.heads.specs.declared.rig.Rig.{Rig}
 use Rattle.head.specs.Work.{slot_of}
-use Rattle.heads.specs.Exact.{ending_told, unnamed, Ran}
+use Rattle.heads.specs.Exact.{ending_told, unnamed, TickedExactly}
 use Rattle.heads.specs.Rigs.{rig_meaning, drifted, MovesOnly}
 use Rattle.heads.proofs.Lawful.{driven_lawful}
 
@@ -57,7 +57,7 @@ idle_slot (Some j) h = cc
 
 pub idle_ran : (r r' : Rig) (p : Bool) → is_some r.works.one ≡ false → is_some r.works.two ≡ false
     → MovesOnly r (λ s. unnamed r.motion (about s).axis (value_of r.settings) s) r'
-    → Ran r.motion (rig_meaning p r) (record { one = None; two = None }) (rig_meaning p r')
+    → TickedExactly r.motion (rig_meaning p r) (record { one = None; two = None }) (rig_meaning p r')
 idle_ran r r' p h k moved =
     let one = idle_slot r.works.one h in
     let two = idle_slot r.works.two k in

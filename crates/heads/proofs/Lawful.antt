@@ -20,7 +20,7 @@ use Rattle.head.proofs.Tables.{position_is, axis_is}
 use Rattle.heads.specs.declared.motion.Motion.{Motion}
 use Rattle.heads.specs.declared.motion.Motion.TheVariants.{AtOnce, Stepwise, Stalled}
 use Rattle.heads.specs.Motion.{moved, driven, unit, held_to_range}
-use Rattle.heads.specs.Exact.{is_at, there, arrived, ending_told, pulled_to, pulled, unnamed, or_value, value_after, Ran}
+use Rattle.heads.specs.Exact.{is_at, there, arrived, ending_told, pulled_to, pulled, unnamed, or_value, value_after, TickedExactly}
 use Rattle.heads.specs.Rigs.{arrives, foretold}
 use Rattle.heads.proofs.Axes.{each_of}
 use Rattle.heads.proofs.Moves.{moved_between}
@@ -101,7 +101,7 @@ slot_lawful m idle e f f' s t r w g v = no_some w
 slot_lawful m (busy o n) e f f' s t r w g v = pulled_lawful m o n (about s).axis e f f' s t refl w g (v ∙ pulled_first m o n e s (f s) t r w)
 
 pub strict : (motion : Motion) (m m' : Meaning) (e : Endings) → ((s : Setting) → in_range s (m.setting s) ≡ true) → Timed m.slots.one → Timed m.slots.two
-    → Apart m.slots.one m.slots.two → Ran motion m e m' → Strict m e m'
+    → Apart m.slots.one m.slots.two → TickedExactly motion m e m' → Strict m e m'
 strict motion m m' e ranged t₁ t₂ apart ran = record {
   pantilt = ran.pantilt;
   one = simp (ran.told_one, ran.one) (slot_ticked m.slots.one m'.setting t₁);

@@ -14,7 +14,7 @@ use Rattle.head.specs.Settings.{position}
 use Rattle.head.specs.Orders.{parts, wants}
 use Rattle.head.specs.Meaning.{Slot, idle, busy, put, Meaning, Timed, rest, reason_given, Apart, Started, Dropped}
 use Rattle.heads.specs.Motion.{step, toward}
-use Rattle.heads.specs.Exact.{rounded_up, ticks_on, longest, is_at, there, arrived, ending_told, Ran}
+use Rattle.heads.specs.Exact.{rounded_up, ticks_on, longest, is_at, there, arrived, ending_told, TickedExactly}
 use Rattle.heads.specs.declared.rig.Rig.{Rig}
 use Rattle.heads.specs.Rigs.{rig_meaning}
 use Rattle.heads.specs.declared.motion.Motion.TheVariants.{Stepwise}
@@ -133,13 +133,13 @@ start_keeps m m' y o (Err e) s t h =
       two = same_punctual m'.slots.two m.setting m'.setting s.kept.setting (rw i h.two);
     }
 
-tick_keeps : (m m' : Meaning) (e : Endings) → Timed m.slots.one → Timed m.slots.two → Apart m.slots.one m.slots.two → Ran Stepwise m e m' → OnTime m
+tick_keeps : (m m' : Meaning) (e : Endings) → Timed m.slots.one → Timed m.slots.two → Apart m.slots.one m.slots.two → TickedExactly Stepwise m e m' → OnTime m
     → OnTime m' × ((is_jammed e.one ≡ false) × (is_jammed e.two ≡ false))
 tick_keeps m m' e t₁ t₂ apart ran h =
     let one = tick_punctual m.slots.one m.setting m'.setting t₁ (moved_one Stepwise m m' e apart ran.setting) h.one in
     let two = tick_punctual m.slots.two m.setting m'.setting t₂ (moved_two Stepwise m m' e apart ran.setting) h.two in
     (record { one = rw ran.one one.0; two = rw ran.two two.0 }, (rw ran.told_one one.1, rw ran.told_two two.1))
 
-pub rig_keeps : (p : Bool) (r r' : Rig) (e : Endings) → Ran Stepwise (rig_meaning p r) e (rig_meaning p r') → OnTime (rig_meaning p r)
+pub rig_keeps : (p : Bool) (r r' : Rig) (e : Endings) → TickedExactly Stepwise (rig_meaning p r) e (rig_meaning p r') → OnTime (rig_meaning p r)
     → OnTime (rig_meaning p r') × ((is_jammed e.one ≡ false) × (is_jammed e.two ≡ false))
 rig_keeps p r r' e ran h = tick_keeps (rig_meaning p r) (rig_meaning p r') e (slot_timed r.works.one) (slot_timed r.works.two) r.works.apart ran h

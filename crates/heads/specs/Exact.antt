@@ -93,7 +93,7 @@ value_after m b e f s =
     (unnamed m (about s).axis f s))
 
 -- a tick of our heads: nothing is left to choose
-pub record Ran (motion : Motion) (m : Meaning) (e : Endings) (m' : Meaning) : Type 0 where
+pub record TickedExactly (motion : Motion) (m : Meaning) (e : Endings) (m' : Meaning) : Type 0 where
   pub pantilt : m'.pantilt ≡ m.pantilt
   pub one : m'.slots.one ≡ rest m.slots.one
   pub two : m'.slots.two ≡ rest m.slots.two

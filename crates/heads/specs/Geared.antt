@@ -9,7 +9,7 @@ use Rattle.heads.specs.declared.geared.Geared.{Geared}
 use Rattle.heads.specs.declared.motion.Motion.{Motion}
 use Rattle.heads.specs.declared.motion.Motion.TheVariants.{Stepwise}
 use Rattle.heads.specs.declared.rig.Rig.{Rig}
-use Rattle.heads.specs.Exact.{Ran}
+use Rattle.heads.specs.Exact.{TickedExactly}
 use Rattle.heads.specs.Punctual.{is_jammed}
 use Rattle.heads.specs.Rigs.{rig_meaning}
 
@@ -36,7 +36,7 @@ pub record GearStarts {G : Type 0} {g : Ghosts G} (n : ℕ) (x : Geared G g) (y 
 pub record GearTicks {G : Type 0} {g : Ghosts G} (motion : Motion) (x : Geared G g) (e : Endings)
     (z : Geared G g) : Type 0 where
   pub ticked : Ticked (geared_meaning x) e (geared_meaning z)
-  pub exact : Ran motion (geared_meaning x) e (geared_meaning z)
+  pub exact : TickedExactly motion (geared_meaning x) e (geared_meaning z)
   -- a head that moves by steps, and is not stalled, never jams
   pub arrives : motion ≡ Stepwise → (is_jammed e.one ≡ false) × (is_jammed e.two ≡ false)
   pub gear : gear_of z ≡ gear_of x

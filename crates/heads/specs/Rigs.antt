@@ -48,9 +48,9 @@ target_given (Some a) w v = v
 target_given None w v = or_value w v
 
 -- a setting from v, where a slot's order that is done gives settings their targets
-abbrev pub closed : Slot → Option Ending → Setting → ℤ → ℤ
-closed idle e s v = v
-closed (busy o n) e s v = if is_done e then target_given (about s).axis (wants (parts o.targets) s) v else v
+abbrev pub set_when_done : Slot → Option Ending → Setting → ℤ → ℤ
+set_when_done idle e s v = v
+set_when_done (busy o n) e s v = if is_done e then target_given (about s).axis (wants (parts o.targets) s) v else v
 
 -- settings that have the values f, where the drive of an axis moves its position
 abbrev pub drifted : Motion → Axis → (Setting → ℤ) → Setting → ℤ

@@ -10,8 +10,8 @@ ghost use Rattle.head.specs.Settings.{about};
 ghost use Rattle.head.specs.Values.{value_of};
 ghost use Rattle.head.specs.Work.{slot_of};
 ghost use Rattle.head.specs.Works.{slots_of};
-ghost use Rattle.heads.specs.Exact.{pulled as pulled_by, value_after, unnamed, ticks_of, Ran};
-ghost use Rattle.heads.specs.Rigs.{rig_meaning, foretold, target_given, closed, drifted, taken_by_orders};
+ghost use Rattle.heads.specs.Exact.{pulled as pulled_by, value_after, unnamed, ticks_of, TickedExactly};
+ghost use Rattle.heads.specs.Rigs.{rig_meaning, foretold, target_given, set_when_done, drifted, taken_by_orders};
 ghost use Rattle.heads.specs.Rigs.{followed, positions_moved, MovesOnly};
 
 use crate::motion::{Motion, names_position};
@@ -48,7 +48,7 @@ fn give(settings: &mut Settings, targets: &[Target])
 
 // Gives settings the targets of an order that is done.
 fn close(settings: &mut Settings, work: &Option<Work>, ending: Option<Ending>)
-    ensures { (s : S) → value_of settings.new s ≡ closed (slot_of work.now) ending s (value_of settings.old s) }
+    ensures { (s : S) → value_of settings.new s ≡ set_when_done (slot_of work.now) ending s (value_of settings.old s) }
 {
     if let (Some(Ending::Done), Some(work)) = (ending, work) {
         give(settings, work.order.targets.as_slice());
@@ -214,7 +214,7 @@ impl Rig {
     // A tick with an order at work in a slot, or in both.
     #[inline(never)]
     fn work(&mut self) -> Endings
-        ensures ran { (p : Bool) → Ran self.old.motion (rig_meaning p self.old) result (rig_meaning p self.new) }
+        ensures ran { (p : Bool) → TickedExactly self.old.motion (rig_meaning p self.old) result (rig_meaning p self.new) }
         ensures motion { self.new.motion ≡ self.old.motion }
     {
         let one = self.ending(&self.works.one);
@@ -228,7 +228,7 @@ impl Rig {
     /// One tick: both orders go on, those with their last tick end, and settings follow.
     #[inline(always)]
     pub(crate) fn tick(&mut self) -> Endings
-        ensures ran { (p : Bool) → Ran self.old.motion (rig_meaning p self.old) result (rig_meaning p self.new) }
+        ensures ran { (p : Bool) → TickedExactly self.old.motion (rig_meaning p self.old) result (rig_meaning p self.new) }
         ensures motion { self.new.motion ≡ self.old.motion }
     {
         if self.works.one.is_some() || self.works.two.is_some() {

@@ -8,8 +8,8 @@ use Rattle.head.specs.Settings.{in_range}
 use Rattle.rows.specs.declared.inquiry.Form.{Form}
 use Rattle.rows.specs.declared.inquiry.Form.TheVariants.{Digit, Level, Number, PanTilt}
 use Rattle.rows.specs.declared.inquiry.Inquiry.{Inquiry}
-use Rattle.rows.specs.Answers.{answer_body, answer_packet, answer_looked, count_of, sent}
-use Rattle.wire.specs.Line.{over}
+use Rattle.rows.specs.Answers.{answer_body, answer_packet, answer_looked}
+use Rattle.wire.specs.Line.{over, over_if_room, count_if_room}
 use Rattle.head.specs.declared.traits.Look.{Ghosts}
 use Rattle.std.proofs.lemmas.List.{take_at, length_push}
 use Rattle.std.specs.Prelude.{nat_le, drop}
@@ -118,13 +118,13 @@ module _ (P : List ℕ → Type 0) (bytes out : List ℕ) (h : P bytes) where
   in_front true = subst P (sym (take_at bytes (drop (length bytes) out) (length bytes) refl)) h
   in_front false = tt
 
-  in_buffer : (r : Option ℕ) (new : List ℕ) → r ≡ count_of bytes out → new ≡ sent bytes out → IfSome r (λ n. P (take n new))
+  in_buffer : (r : Option ℕ) (new : List ℕ) → r ≡ count_if_room bytes out → new ≡ over_if_room bytes out → IfSome r (λ n. P (take n new))
   in_buffer r new e g =
       subst (λ (x : Option ℕ). IfSome x (λ n. P (take n new))) (sym e)
-      (subst (λ (x : List ℕ). IfSome (count_of bytes out) (λ n. P (take n x))) (sym g) (in_front (nat_le (length bytes) (length out))))
+      (subst (λ (x : List ℕ). IfSome (count_if_room bytes out) (λ n. P (take n x))) (sym g) (in_front (nat_le (length bytes) (length out))))
 
 pub answered : {L : Type 0} (look : Ghosts L) (x : L) (header : ℕ) (q : Inquiry) (out : List ℕ) (r : Option ℕ) (new : List ℕ)
-    → ((s : Setting) → in_range s (look.setting x s) ≡ true) → r ≡ count_of (answer_looked look x header q) out → new ≡ sent (answer_looked look x header q) out
+    → ((s : Setting) → in_range s (look.setting x s) ≡ true) → r ≡ count_if_room (answer_looked look x header q) out → new ≡ over_if_room (answer_looked look x header q) out
     → IfSome r (λ n. TellsTruly header q (look.setting x) (look.pantilt x) (take n new))
 answered look x header q out r new ranged e g =
     in_buffer (TellsTruly header q (look.setting x) (look.pantilt x)) (answer_looked look x header q) out (truly_told (look.setting x) ranged header q (look.pantilt x)) r new e g

@@ -1,5 +1,5 @@
 -- The answers to inquiries, where f has the values that are looked at.
-use Rattle.std.specs.Prelude.{ℕ, ◌/◌, ◌%◌, Bool, if◌then◌else◌, List, [], ◌∷◌, ◌++◌, length, ℤ, Some, None, Option, nat_le}
+use Rattle.std.specs.Prelude.{ℕ, ◌/◌, ◌%◌, Bool, if◌then◌else◌, List, [], ◌∷◌, ◌++◌, ℤ}
 use Rattle.head.specs.declared.setting.Setting.{Setting}
 use Rattle.head.specs.declared.setting.Setting.TheVariants.{Pan, Tilt}
 use Rattle.head.specs.declared.traits.Look.{Ghosts}
@@ -7,7 +7,6 @@ use Rattle.rows.specs.declared.inquiry.Form.{Form}
 use Rattle.rows.specs.declared.inquiry.Form.TheVariants.{Digit, Level, Number, PanTilt}
 use Rattle.rows.specs.declared.inquiry.Inquiry.{Inquiry}
 use Rattle.rows.specs.Digits.{bits, digits}
-use Rattle.wire.specs.Line.{over}
 
 abbrev pub looked_digits : (Setting → ℤ) → Setting → List ℕ
 looked_digits f s = digits (bits (f s))
@@ -35,10 +34,3 @@ answer_looked look x header q = answer_packet header q (look.setting x) (look.pa
 -- the same of pan and tilt, which one inquiry asks for
 abbrev pub pan_tilt_looked : {L : Type 0} → Ghosts L → L → ℕ → List ℕ
 pan_tilt_looked look x header = answer_in header PanTilt Pan (look.setting x) (look.pantilt x)
-
--- bytes put at the front of a buffer, if it has room for them
-abbrev pub count_of : List ℕ → List ℕ → Option ℕ
-count_of bytes out = if nat_le (length bytes) (length out) then Some (length bytes) else None
-
-abbrev pub sent : List ℕ → List ℕ → List ℕ
-sent bytes out = if nat_le (length bytes) (length out) then over bytes out else out

@@ -12,4 +12,3 @@ pub mod Requests
 pub mod Answers
 pub mod Told
 pub mod OneRow
-pub mod Tried

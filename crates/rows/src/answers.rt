@@ -1,8 +1,9 @@
 //! Inquiries answered, from whatever can be looked at.
 
 ghost use Rattle.std.specs.Prelude.{◌≡◌, IfSome, take};
-ghost use Rattle.rows.specs.Answers.{answer_looked, pan_tilt_looked, sent as sent_into, count_of};
+ghost use Rattle.rows.specs.Answers.{answer_looked, pan_tilt_looked};
 ghost use Rattle.rows.specs.Told.{TellsTruly};
+ghost use Rattle.wire.specs.Line.{over_if_room, count_if_room};
 
 use crate::digits::digits;
 use crate::inquiry::{Form, Inquiry};
@@ -13,8 +14,8 @@ use wire::send_at;
 #[tactic(auto, using(crate::proofs::Looks::looked_is))]
 #[inline(always)]
 fn put_pan_tilt<L: Look>(from: &L, header: u8, out: &mut [u8]) -> Option<usize>
-    ensures count { result ≡ count_of (pan_tilt_looked L.Look from.now header) out.old }
-    ensures sent { out.new ≡ sent_into (pan_tilt_looked L.Look from.now header) out.old }
+    ensures count { result ≡ count_if_room (pan_tilt_looked L.Look from.now header) out.old }
+    ensures sent { out.new ≡ over_if_room (pan_tilt_looked L.Look from.now header) out.old }
 {
     if !from.has_pan_tilt() {
         return send_at(out, 0, &[header, 0x60, 0x41, 0xff]);
@@ -28,8 +29,8 @@ fn put_pan_tilt<L: Look>(from: &L, header: u8, out: &mut [u8]) -> Option<usize>
 #[tactic(auto, using(crate::proofs::Looks::looked_is))]
 #[inline(always)]
 fn put<L: Look>(from: &L, inquiry: Inquiry, header: u8, out: &mut [u8]) -> Option<usize>
-    ensures count { result ≡ count_of (answer_looked L.Look from.now header inquiry) out.old }
-    ensures sent { out.new ≡ sent_into (answer_looked L.Look from.now header inquiry) out.old }
+    ensures count { result ≡ count_if_room (answer_looked L.Look from.now header inquiry) out.old }
+    ensures sent { out.new ≡ over_if_room (answer_looked L.Look from.now header inquiry) out.old }
 {
     let number = inquiry.setting.number();
     match inquiry.form {
@@ -54,8 +55,8 @@ fn put<L: Look>(from: &L, inquiry: Inquiry, header: u8, out: &mut [u8]) -> Optio
 /// that are looked at follows from its bytes.
 #[inline(always)]
 pub fn answer<L: Look>(from: &L, inquiry: Inquiry, header: u8, out: &mut [u8]) -> Option<usize>
-    ensures count { result ≡ count_of (answer_looked L.Look from.now header inquiry) out.old }
-    ensures sent { out.new ≡ sent_into (answer_looked L.Look from.now header inquiry) out.old }
+    ensures count { result ≡ count_if_room (answer_looked L.Look from.now header inquiry) out.old }
+    ensures sent { out.new ≡ over_if_room (answer_looked L.Look from.now header inquiry) out.old }
     ensures values { IfSome result
         (λ n. TellsTruly header inquiry (L.Look.setting from.now) (L.Look.pantilt from.now) (take n out.new)) }
 {

@@ -17,7 +17,6 @@ mod request;
 mod row;
 mod table;
 pub mod theorems;
-pub mod tried;
 
 pub use answers::answer;
 pub use codes::Codes;

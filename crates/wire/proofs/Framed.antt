@@ -4,11 +4,11 @@ use Rattle.std.proofs.lemmas.Grind.{common_steps}
 use Rattle.wire.specs.Framing.{Held, none, begun, skipping, held_after}
 use Rattle.wire.specs.Packets.{closes}
 use Rattle.wire.proofs.Forms.{packet_some}
-use Rattle.wire.specs.Theorems.{after, events, at_last, EveryPacketIsFramed, TheLineIsFoundAgain}
+use Rattle.wire.specs.Theorems.{held_after_all, events, at_last, EveryPacketIsFramed, TheLineIsFoundAgain}
 
 -- from the front of a packet on, its rest
 record Rest (front rest : List ℕ) : Type 0 where
-  left : after (begun front) rest ≡ none
+  left : held_after_all (begun front) rest ≡ none
   told : events (begun front) rest ≡ at_last (Ok (Some (front ++ rest))) rest
 
 rests : (front rest : List ℕ) → closes rest ≡ true → 1 ≤ length front → 3 ≤ length front + length rest → length front + length rest ≤ 16 → Rest front rest

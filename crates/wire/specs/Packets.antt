@@ -5,14 +5,15 @@ use Rattle.std.specs.Prelude.{ℕ, ◌-◌, Bool, true, false, not, ◌&&◌, Li
 abbrev pub is_header : ℕ → Bool
 is_header b = nat_le 0x80 b && nat_le b 0xfe
 
--- a header, and behind it no FF
+-- no FF
 abbrev pub no_end : List ℕ → Bool
 no_end [] = true
 no_end (b ∷ bs) = not (b == 0xff) && no_end bs
 
-abbrev pub opens : List ℕ → Bool
-opens [] = false
-opens (h ∷ bs) = is_header h && no_end bs
+-- a packet that is begun: a header, and behind it no FF
+abbrev pub is_begun : List ℕ → Bool
+is_begun [] = false
+is_begun (h ∷ bs) = is_header h && no_end bs
 
 -- FF stands last, and only there
 abbrev pub closes : List ℕ → Bool

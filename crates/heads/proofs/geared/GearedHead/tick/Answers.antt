@@ -1,6 +1,6 @@
 use Rattle.std.proofs.Common.{◌∙◌, refl, subst}
 use Rattle.heads.specs.declared.motion.Motion.{Motion}
-use Rattle.heads.specs.Exact.{Ran}
+use Rattle.heads.specs.Exact.{TickedExactly}
 use Rattle.heads.specs.Rigs.{rig_meaning}
 use Rattle.heads.proofs.Punctual.{rig_keeps}
 use Rattle.heads.proofs.Rigs.{ticked}
@@ -13,7 +13,7 @@ invariant_of-self g c =
     let r = c.tick.new.self in
     record {
       moves = c.tick.ensures.motion ∙ h.moves;
-      on_time = λ e. (rig_keeps p h.rig r c.tick.result (subst (λ (m : Motion). Ran m (rig_meaning p h.rig) c.tick.result (rig_meaning p r)) (h.moves ∙ e) (c.tick.ensures.ran p)) (h.on_time e)).0;
+      on_time = λ e. (rig_keeps p h.rig r c.tick.result (subst (λ (m : Motion). TickedExactly m (rig_meaning p h.rig) c.tick.result (rig_meaning p r)) (h.moves ∙ e) (c.tick.ensures.ran p)) (h.on_time e)).0;
     }
 
 pub returns : goal.returns
@@ -23,7 +23,7 @@ returns g c =
     let r = c.tick.new.self in
     record {
       ticked = ticked h.rig.motion p h.rig r c.tick.result (c.tick.ensures.ran p);
-      exact = subst (λ (m : Motion). Ran m (rig_meaning p h.rig) c.tick.result (rig_meaning p r)) h.moves (c.tick.ensures.ran p);
-      arrives = λ e. (rig_keeps p h.rig r c.tick.result (subst (λ (m : Motion). Ran m (rig_meaning p h.rig) c.tick.result (rig_meaning p r)) (h.moves ∙ e) (c.tick.ensures.ran p)) (h.on_time e)).1;
+      exact = subst (λ (m : Motion). TickedExactly m (rig_meaning p h.rig) c.tick.result (rig_meaning p r)) h.moves (c.tick.ensures.ran p);
+      arrives = λ e. (rig_keeps p h.rig r c.tick.result (subst (λ (m : Motion). TickedExactly m (rig_meaning p h.rig) c.tick.result (rig_meaning p r)) (h.moves ∙ e) (c.tick.ensures.ran p)) (h.on_time e)).1;
       gear = refl;
     }

@@ -3,9 +3,9 @@ use Rattle.std.proofs.lemmas.Int.{ints}
 use Rattle.head.specs.declared.setting.Axis.{Axis}
 use Rattle.head.specs.declared.setting.Axis.TheVariants.{Zoom, Focus, Pan, Tilt}
 use Rattle.head.specs.declared.settings.Settings.{Settings}
-use Rattle.head.specs.Settings.{about, position, drive, Small}
+use Rattle.head.specs.Settings.{about, position, drive}
 use Rattle.head.specs.Values.{value_of}
-use Rattle.head.proofs.Bounds.{settings_small}
+use Rattle.head.proofs.Bounds.{Small, settings_small}
 use Rattle.heads.specs.Motion.{unit, held_to_range}
 use Rattle.heads.proofs.Drives.{Gentle, gentle}
 use Rattle.heads.proofs.motion.Motion.driven.Goals as goal
