@@ -1,5 +1,5 @@
 -- The law of the sockets, for every run.
-use Rattle.std.proofs.Common.{◌≡◌, ℕ, ◌-◌, ◌≤◌, Bool, true, false, cond, eqb, leb, ◌⊎◌, List, [], ◌∷◌, ◌++◌, length, ℤ, Some, None, Ok, Err, Option, Result, sym, refl, ap, ◌∙◌, subst, inl, inr, arith}
+use Rattle.std.proofs.Common.{◌≡◌, ℕ, ◌-◌, ◌≤◌, Bool, true, false, cond, eqb, leb, ◌⊎◌, List, [], ◌∷◌, ◌++◌, length, ℤ, Some, None, Ok, Err, Option, Result, sym, refl, ap, ◌∙◌, subst, inl, inr, append-nil, arith}
 use Rattle.std.proofs.lemmas.Bool.{eqb-true, leb-true, leb-false}
 use Rattle.end.specs.declared.call.Call.{Call}
 use Rattle.end.specs.declared.call.Call.TheVariants.{Byte, Tick, Open}
@@ -352,17 +352,26 @@ behind c m before x = every_run (run_behind c x)
 pub calls_keep_the_law : CallsKeepTheLaw
 calls_keep_the_law s h s' c = behind c
 
--- one list of calls and then another
-pub calls_then : {h : List Record} {s s' : State} {h' : List Record} {s'' : State} → Calls s h s' → Calls s' h' s'' → Calls s (h' ++ h) s''
-calls_then c runs.Calls.none = c
-calls_then c (runs.Calls.then r c' d v) = runs.Calls.then r (calls_then c c') d v
+-- Calls by the end's own values.
+module _ {H : Type 0} {h : HeadGhosts H} {l : LookGhosts H} where
+  -- are calls by what the head means
+  calls_meant : {x : End H h l} {rs : List Record} {x' : End H h l} → CallsOn x rs x' → Calls (state x) rs (state x')
+  calls_meant Ends.CallsOn.none = runs.Calls.none
+  calls_meant (Ends.CallsOn.then k c step ranged head) = runs.Calls.then k (calls_meant c) step ranged
+
+  pub behind_on : {x x' : End H h l} {rs : List Record} → CallsOn x rs x' → LawfulBehind (state x) rs (state x')
+  behind_on c = behind (calls_meant c)
+
+  -- one list of calls and then another
+  pub calls_on_then : {x x' : End H h l} {rs rs' : List Record} {x'' : End H h l} → CallsOn x rs x' → CallsOn x' rs' x'' → CallsOn x (rs' ++ rs) x''
+  calls_on_then c Ends.CallsOn.none = c
+  calls_on_then c (Ends.CallsOn.then k c' step ranged head) = Ends.CallsOn.then k (calls_on_then c c') step ranged head
 
 -- A list of calls.
 
 module _ {H : Type 0} {h : HeadGhosts H} {l : LookGhosts H} {x : End H h l} where
   pub served_run : {m : Meaning} {rs : List Record} {x' : End H h l} → CallsOn x rs x' → Run m [] (state x) → Run m rs (state x')
-  served_run Ends.CallsOn.none r = r
-  served_run (Ends.CallsOn.then k c step ranged head) r = runs.Run.then k (served_run c r) step ranged
+  served_run {m = m} {rs = rs} {x' = x'} c r = subst (λ (k : List Record). Run m k (state x')) (append-nil rs) (run_behind (calls_meant c) r)
 
   pub played : {m : Meaning} {calls : List Call} {n : ℕ} {bytes : List ℕ} {x' : End H h l} → Run m [] (state x) → PlayedOn x calls n bytes x' → Played m calls n bytes (state x')
   played r p = record { run = p.run; asked = p.asked; logged = p.logged; shared = p.shared; lawful = every_run (served_run p.served r) }

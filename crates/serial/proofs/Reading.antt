@@ -4,7 +4,7 @@ use Rattle.std.proofs.lemmas.Bool.{both_ways}
 use Rattle.std.specs.IoError.{error_kind}
 use Rattle.std.specs.declared.io.Error.{Error}
 use Rattle.std.specs.declared.io.ErrorKind.TheVariants.{Interrupted}
-use Rattle.serial.specs.Outside.{Operation, Operating, reads, writes, tells, given, Known, Means}
+use Rattle.serial.specs.Outside.{Operation, Operating, reads, writes, tells, bytes_read, Known, Means}
 use Rattle.serial.specs.Turns.{Unbroken, read, again, most_read}
 
 -- reads that were all broken off
@@ -17,12 +17,12 @@ behind none q = q
 behind (more e p signal o) q = behind p (again e signal o q)
 
 pub not_broken : {O : Type 0} {op : Operating O} {x y z : O} (r : Result ℕ Error) (buffer : List ℕ) (b : Bool) → Broken op x y →
-    IfErr r (λ e. IsTrue b ↔ (error_kind e ≡ Interrupted)) → b ≡ false → op y (reads most_read (given r buffer)) z → Unbroken op x (given r buffer) z
+    IfErr r (λ e. IsTrue b ↔ (error_kind e ≡ Interrupted)) → b ≡ false → op y (reads most_read (bytes_read r buffer)) z → Unbroken op x (bytes_read r buffer) z
 not_broken (Ok n) buffer b p s f o = behind p (read _ tt o)
 not_broken (Err e) buffer b p s f o = behind p (read _ (λ signal. both_ways b f (s.1 signal)) o)
 
 pub broken : {O : Type 0} {op : Operating O} {x y z : O} (r : Result ℕ Error) (buffer : List ℕ) (b : Bool) → Broken op x y → OnOk r (b ≡ false) →
-    IfErr r (λ e. IsTrue b ↔ (error_kind e ≡ Interrupted)) → b ≡ true → op y (reads most_read (given r buffer)) z → Broken op x z
+    IfErr r (λ e. IsTrue b ↔ (error_kind e ≡ Interrupted)) → b ≡ true → op y (reads most_read (bytes_read r buffer)) z → Broken op x z
 broken (Ok n) buffer b p w s t o = absurd (both_ways b w t)
 broken (Err e) buffer b p w s t o = more e p (s.0 t) o
 

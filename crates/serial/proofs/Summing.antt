@@ -5,15 +5,18 @@ use Rattle.std.specs.Io.KnownBytes.{Appends, Consumes}
 use Rattle.std.specs.declared.io.Error.{Error}
 use Rattle.std.specs.declared.time.Instant.{Instant}
 use Rattle.end.specs.declared.call.Call.{Call}
+use Rattle.end.specs.Ends as calls
+use Rattle.end.specs.Ends.{CallsOn}
 use Rattle.end.specs.Records.{Record, calls_of, sent_by}
-use Rattle.end.specs.Runs as runs
-use Rattle.end.specs.Runs.{Calls}
-use Rattle.end.proofs.Runs.{behind, calls_then}
+use Rattle.end.proofs.Runs.{behind_on, calls_on_then}
+use Rattle.head.specs.declared.traits.Head.{Ghosts as HeadGhosts}
+use Rattle.head.specs.declared.traits.Look.{Ghosts as LookGhosts}
+use Rattle.serial.specs.declared.port.Port.{Port}
 use Rattle.serial.specs.declared.silence.Finish.{Finish}
 use Rattle.serial.specs.declared.ticks.Ticks.{Ticks}
 use Rattle.serial.specs.Outside.{Operation, Operating, Operated, none, then, reads, writes, tells, Known, Moved, Means}
 use Rattle.serial.specs.Sums.{TurnAt, time_after, ticks_after, calls_over, bytes_over, Rising, newest_sent, Sum, IsWhole, Sums}
-use Rattle.serial.specs.Turns.{HadRoom, Answered, Failed, Box, Moment, Turn, Unbroken, Begun, Kept, TurnMade, TurnsMade, TurnFailed, Served, started, calls_in, reply, replies, time_then}
+use Rattle.serial.specs.Turns.{HadRoom, Moment, Turn, Unbroken, Begun, TurnMade, TurnsMade, ReplyLost, Served, started, calls_in, reply, replies, time_then}
 use Rattle.serial.specs.Turns as turns
 use Rattle.serial.specs.Ticks.{owed, paid_at}
 use Rattle.serial.proofs.Moving.{appends_none, appends_both, consumes_none}
@@ -69,160 +72,165 @@ module _ {O : Type 0} (op : Operating O) (known : O → Known) (means : (x : O) 
   begun_moved : {x y : O} {t : Turn} → Begun op x t y → Moved t.bytes [] (known x) (known y)
   begun_moved {t = t} p = moved_as (append-nil t.bytes) refl (moved_both (read_moved p.read) (means _ _ _ p.clock))
 
-  -- whole turns, summed
-  record Over (b : Box) (k : Known) (ts : List TurnAt) (m : Moment O) : Type 0 where
-    pub records : List Record
-    pub made : Calls b.end records m.box.end
-    pub room : HadRoom records
-    pub asked : calls_of records ≡ calls_over b.ticks ts
-    pub ticks : m.box.ticks ≡ ticks_after b.ticks ts
-    pub time : m.time ≡ time_after ts
-    pub rising : Rising ts
-    pub moved : Moved (bytes_over ts) (sent_by records) k (known m.outside)
+  abbrev at : Turn → ℕ → TurnAt
+  at t now = record { bytes = t.bytes; time = now }
 
-  over_none : (b : Box) (x : O) → Over b (known x) [] (started b x)
-  over_none b x = record {
-    records = [];
-    made = runs.none;
-    room = tt;
-    asked = refl;
-    ticks = refl;
-    time = refl;
-    rising = tt;
-    moved = unmoved (known x);
-  }
+  module _ {H : Type 0} {h : HeadGhosts H} {l : LookGhosts H} where
+    -- whole turns, summed
+    record Over (b : Port H h l) (k : Known) (ts : List TurnAt) (m : Moment O H h l) : Type 0 where
+      pub records : List Record
+      pub made : CallsOn b.end records m.port.end
+      pub room : HadRoom records
+      pub asked : calls_of records ≡ calls_over b.ticks ts
+      pub ticks : m.port.ticks ≡ ticks_after b.ticks ts
+      pub time : m.time ≡ time_after ts
+      pub rising : Rising ts
+      pub moved : Moved (bytes_over ts) (sent_by records) k (known m.outside)
 
-  abbrev at : Instant → ℕ → Turn → TurnAt
-  at start time t = record { bytes = t.bytes; time = time_then start time t.told }
+    over_none : (b : Port H h l) (x : O) → Over b (known x) [] (started b x)
+    over_none b x = record {
+      records = [];
+      made = calls.CallsOn.none;
+      room = tt;
+      asked = refl;
+      ticks = refl;
+      time = refl;
+      rising = tt;
+      moved = unmoved (known x);
+    }
 
-  over_more : {start : Instant} {b : Box} {k : Known} {ts : List TurnAt} {m m' : Moment O} {t : Turn} {h : Option Finish} →
-      Over b k ts m → TurnMade op start m t h m' → Over b k (at start m.time t ∷ ts) m'
-  over_more {start = start} {b = b} {k = k} {ts = ts} {m = m} {m' = m'} {t = t} p q =
-      let a = q.answered in
-      let now = time_then start m.time t.told in
-      record {
-        records = a.records ++ p.records;
-        made = calls_then p.made a.made;
-        room = room_both p.records a.records p.room a.room;
-        asked =
-            sym (calls_of_both p.records a.records)
-            ∙ ap (λ (l : List Call). l ++ calls_of a.records) p.asked
-            ∙ ap (λ (l : List Call). calls_over b.ticks ts ++ l) a.asked
-            ∙ ap (λ (u : Ticks). calls_over b.ticks ts ++ calls_in t.bytes (owed u now)) p.ticks;
-        ticks = q.kept.ticks ∙ ap (λ (n : ℕ). paid_at m.box.ticks n) q.kept.time ∙ ap (λ (u : Ticks). paid_at u now) p.ticks;
-        time = q.kept.time;
-        rising = (let e = p.time in omega arith, p.rising);
-        moved = moved_as (ap (λ (l : List ℕ). bytes_over ts ++ l) (append-nil t.bytes)) (sent_by_both p.records a.records)
-            (moved_both p.moved (moved_both (begun_moved q.begun) (replies_moved a.records a.written)));
-      }
+    later : (start : Instant) {b : Port H h l} {k : Known} {ts : List TurnAt} {m : Moment O H h l} (t : Turn) (now : ℕ) →
+        Over b k ts m → now ≡ time_then start m.time t.told → Rising (at t now ∷ ts)
+    later start t now p e = (let before = p.time in omega arith, p.rising)
 
-  over : {start : Instant} {b : Box} {x : O} {ts : List Turn} {m : Moment O} → TurnsMade op start (started b x) ts m → (us : List TurnAt) × Over b (known x) us m
-  over {b = b} {x = x} turns.none = ([], over_none b x)
-  over (turns.then t p q) = let o = over p in (_, over_more o.1 q)
+    over_more : {start : Instant} {b : Port H h l} {k : Known} {ts : List TurnAt} {m m' : Moment O H h l} {t : Turn} {f : Option Finish} →
+        Over b k ts m → TurnMade op start m t f m' → Over b k (at t m'.time ∷ ts) m'
+    over_more {b = b} {ts = ts} {m = m} {m' = m'} {t = t} p q =
+        let a = q.answered in
+        record {
+          records = a.records ++ p.records;
+          made = calls_on_then p.made a.made;
+          room = room_both p.records a.records p.room a.room;
+          asked =
+              sym (calls_of_both p.records a.records)
+              ∙ ap (λ (l : List Call). l ++ calls_of a.records) p.asked
+              ∙ ap (λ (l : List Call). calls_over b.ticks ts ++ l) a.asked
+              ∙ ap (λ (u : Ticks). calls_over b.ticks ts ++ calls_in t.bytes (owed u m'.time)) p.ticks;
+          ticks = q.counted.ticks ∙ ap (λ (u : Ticks). paid_at u m'.time) p.ticks;
+          time = refl;
+          rising = later _ t m'.time p q.time;
+          moved = moved_as (ap (λ (l : List ℕ). bytes_over ts ++ l) (append-nil t.bytes)) (sent_by_both p.records a.records)
+              (moved_both p.moved (moved_both (begun_moved q.begun) (replies_moved a.records a.written)));
+        }
 
-  -- whole turns alone, behind the start
-  sum_of : {b : Box} {k₀ k : Known} {ts : List TurnAt} {m : Moment O} → Moved [] [] k₀ k → Over b k ts m → Sum b m.box k₀ (known m.outside)
-  sum_of {ts = ts} o p = record {
-    turns = ts;
-    rising = p.rising;
-    records = p.records;
-    made = p.made;
-    room = p.room;
-    law = behind p.made;
-    unmade = [];
-    asked = append-nil _ ∙ p.asked;
-    untold = [];
-    got = sent_by p.records;
-    lost = [];
-    sent = sym (append-nil (sent_by p.records));
-    rest = omega arith;
-    moved = moved_as (sym (append-nil (bytes_over ts))) refl (moved_both o p.moved);
-  }
+    over : {start : Instant} {b : Port H h l} {x : O} {ts : List Turn} {m : Moment O H h l} →
+        TurnsMade op start (started b x) ts m → (us : List TurnAt) × Over b (known x) us m
+    over {b = b} {x = x} turns.none = ([], over_none b x)
+    over (turns.then t p q) = let o = over p in (_, over_more o.1 q)
 
-  sum_whole : {b : Box} {k₀ k : Known} {ts : List TurnAt} {m : Moment O} (o : Moved [] [] k₀ k) (p : Over b k ts m) → IsWhole (sum_of o p)
-  unfolding sum_of
-  sum_whole o p = record { unmade = refl; untold = refl; lost = refl }
+    nothing_made : {b : Port H h l} {k k' : Known} → Moved [] [] k k' → Sum b b k k'
+    nothing_made {b = b} o = record {
+      turns = [];
+      rising = tt;
+      records = [];
+      made = calls.CallsOn.none;
+      room = tt;
+      law = behind_on {x = b.end} calls.CallsOn.none;
+      unmade = [];
+      asked = refl;
+      untold = [];
+      got = [];
+      lost = [];
+      sent = refl;
+      rest = omega arith;
+      moved = o;
+    }
 
-  nothing_made : {b : Box} {k k' : Known} → Moved [] [] k k' → Sum b b k k'
-  nothing_made o = record {
-    turns = [];
-    rising = tt;
-    records = [];
-    made = runs.none;
-    room = tt;
-    law = behind runs.none;
-    unmade = [];
-    asked = refl;
-    untold = [];
-    got = [];
-    lost = [];
-    sent = refl;
-    rest = omega arith;
-    moved = o;
-  }
+    -- what was read behind the last turn, and the box stayed as it was
+    sum_read : {b b' : Port H h l} {k₀ k k' : Known} {bytes : List ℕ} {ts : List TurnAt} {m : Moment O H h l} → Moved [] [] k₀ k → Over b k ts m →
+        Moved bytes [] (known m.outside) k' → b' ≡ m.port → Sum b b' k₀ k'
+    sum_read {b = b} {k₀ = k₀} {k' = k'} {bytes = bytes} {ts = ts} {m = m} o p q e =
+        let s : Sum b m.port k₀ k' = record {
+          turns = ts;
+          rising = p.rising;
+          records = p.records;
+          made = p.made;
+          room = p.room;
+          law = behind_on p.made;
+          unmade = [];
+          asked = append-nil _ ∙ p.asked;
+          untold = bytes;
+          got = sent_by p.records;
+          lost = [];
+          sent = sym (append-nil (sent_by p.records));
+          rest = omega arith;
+          moved = moved_as refl (append-nil (sent_by p.records)) (moved_both o (moved_both p.moved q));
+        } in
+        subst (λ (c : Port H h l). Sum b c k₀ k') (sym e) s
 
-  -- what was read behind the last turn, and the box stayed as it was
-  sum_read : {b b' : Box} {k₀ k k' : Known} {bytes : List ℕ} {ts : List TurnAt} {m : Moment O} → Moved [] [] k₀ k → Over b k ts m →
-      Moved bytes [] (known m.outside) k' → b' ≡ m.box → Sum b b' k₀ k'
-  sum_read {b = b} {k₀ = k₀} {k' = k'} {bytes = bytes} {ts = ts} o p q e =
-      let s : Sum b _ k₀ k' = record {
-        turns = ts;
-        rising = p.rising;
-        records = p.records;
-        made = p.made;
-        room = p.room;
-        law = behind p.made;
-        unmade = [];
-        asked = append-nil _ ∙ p.asked;
-        untold = bytes;
-        got = sent_by p.records;
-        lost = [];
-        sent = sym (append-nil (sent_by p.records));
-        rest = omega arith;
-        moved = moved_as refl (append-nil (sent_by p.records)) (moved_both o (moved_both p.moved q));
-      } in
-      subst (λ (c : Box). Sum b c k₀ k') (sym e) s
+    -- whole turns alone, behind the start
+    sum_of : {b : Port H h l} {k₀ k : Known} {ts : List TurnAt} {m : Moment O H h l} → Moved [] [] k₀ k → Over b k ts m → Sum b m.port k₀ (known m.outside)
+    sum_of {ts = ts} o p = record {
+      turns = ts;
+      rising = p.rising;
+      records = p.records;
+      made = p.made;
+      room = p.room;
+      law = behind_on p.made;
+      unmade = [];
+      asked = append-nil _ ∙ p.asked;
+      untold = [];
+      got = sent_by p.records;
+      lost = [];
+      sent = sym (append-nil (sent_by p.records));
+      rest = omega arith;
+      moved = moved_as (sym (append-nil (bytes_over ts))) refl (moved_both o p.moved);
+    }
 
-  sum_lost : (start : Instant) {b : Box} {k₀ k : Known} {ts : List TurnAt} {m : Moment O} (b' : Box) (y : O) {t : Turn} {between : O} {e : Error} → Moved [] [] k₀ k → Over b k ts m →
-      Begun op m.outside t between → Failed op (turns.calls_then start m.box.ticks m.time t) e m.box.end between b'.end y →
-      Sum b b' k₀ (known y)
-  sum_lost start {b = b} {ts = ts} {m = m} b' y {t = t} o p begun f =
-      let h = f.last ∷ f.before in
-      let now = time_then start m.time t.told in
-      let made = calls_then p.made f.made in
-      let q = parted (replies f.before) f.written in
-      let part = lost_part q.2 in
-      let bytes = f.last.fed.sent in
-      record {
-        turns = at start m.time t ∷ ts;
-        rising = (let e = p.time in omega arith, p.rising);
-        records = h ++ p.records;
-        made = made;
-        room = room_both p.records h p.room f.room;
-        law = behind made;
-        unmade = f.left;
-        asked =
-            ap (λ (l : List Call). l ++ f.left) (sym (calls_of_both p.records h))
-            ∙ append_assoc (calls_of p.records) (calls_of h) f.left
-            ∙ ap (λ (l : List Call). l ++ (calls_of h ++ f.left)) p.asked
-            ∙ ap (λ (l : List Call). calls_over b.ticks ts ++ l) f.asked
-            ∙ ap (λ (u : Ticks). calls_over b.ticks ts ++ calls_in t.bytes (owed u now)) p.ticks;
-        untold = [];
-        got = sent_by p.records ++ (sent_by f.before ++ take part.0 bytes);
-        lost = drop part.0 bytes;
-        sent =
-            sym (sent_by_both p.records h)
-            ∙ ap (λ (l : List ℕ). sent_by p.records ++ (sent_by f.before ++ l)) (sym (take-append-drop part.0 bytes))
-            ∙ ap (λ (l : List ℕ). sent_by p.records ++ l) (sym (append_assoc (sent_by f.before) (take part.0 bytes) (drop part.0 bytes)))
-            ∙ sym (append_assoc (sent_by p.records) (sent_by f.before ++ take part.0 bytes) (drop part.0 bytes));
-        rest = omega (arith, length-drop part.0 bytes);
-        moved = moved_as (ap (λ (l : List ℕ). bytes_over ts ++ l) (append-nil t.bytes) ∙ sym (append-nil _)) refl
-            (moved_both o (moved_both p.moved (moved_both (begun_moved begun) (moved_both (replies_moved f.before q.1) part.1))));
-      }
+    sum_whole : {b : Port H h l} {k₀ k : Known} {ts : List TurnAt} {m : Moment O H h l} (o : Moved [] [] k₀ k) (p : Over b k ts m) → IsWhole (sum_of o p)
+    unfolding sum_of
+    sum_whole o p = record { unmade = refl; untold = refl; lost = refl }
 
-  pub sums : {b b' : Box} {x y : O} {r : Result Finish Error} → Served op b x r b' y → Sums b (known x) r b' (known y)
-  sums (turns.unstarted o) = nothing_made (means _ _ _ o)
-  sums (turns.finished start t o p q) = let u = over_more (over p).1 q in (sum_of (means _ _ _ o) u, sum_whole (means _ _ _ o) u)
-  sums (turns.failed start o p (turns.at_read r e)) = sum_read (means _ _ _ o) (over p).1 (read_failed r) e
-  sums (turns.failed start o p (turns.at_clock bytes r c e)) = sum_read (means _ _ _ o) (over p).1 (moved_as (append-nil bytes) refl (moved_both (read_moved r) (means _ _ _ c))) e
-  sums (turns.failed start o p (turns.at_reply t begun f kept)) = sum_lost start _ _ (means _ _ _ o) (over p).1 begun f
+    sum_lost : {start : Instant} {b : Port H h l} {k₀ k : Known} {ts : List TurnAt} {m m' : Moment O H h l} {t : Turn} {e : Error} →
+        Moved [] [] k₀ k → Over b k ts m → ReplyLost op start m t e m' → Sum b m'.port k₀ (known m'.outside)
+    sum_lost {b = b} {ts = ts} {m = m} {m' = m'} {t = t} o p r =
+        let f = r.failed in
+        let rs = f.last ∷ f.before in
+        let made = calls_on_then p.made f.made in
+        let q = parted (replies f.before) f.written in
+        let part = lost_part q.2 in
+        let bytes = f.last.fed.sent in
+        record {
+          turns = at t m'.time ∷ ts;
+          rising = later _ t m'.time p r.time;
+          records = rs ++ p.records;
+          made = made;
+          room = room_both p.records rs p.room f.room;
+          law = behind_on made;
+          unmade = f.left;
+          asked =
+              ap (λ (l : List Call). l ++ f.left) (sym (calls_of_both p.records rs))
+              ∙ append_assoc (calls_of p.records) (calls_of rs) f.left
+              ∙ ap (λ (l : List Call). l ++ (calls_of rs ++ f.left)) p.asked
+              ∙ ap (λ (l : List Call). calls_over b.ticks ts ++ l) f.asked
+              ∙ ap (λ (u : Ticks). calls_over b.ticks ts ++ calls_in t.bytes (owed u m'.time)) p.ticks;
+          untold = [];
+          got = sent_by p.records ++ (sent_by f.before ++ take part.0 bytes);
+          lost = drop part.0 bytes;
+          sent =
+              sym (sent_by_both p.records rs)
+              ∙ ap (λ (l : List ℕ). sent_by p.records ++ (sent_by f.before ++ l)) (sym (take-append-drop part.0 bytes))
+              ∙ ap (λ (l : List ℕ). sent_by p.records ++ l) (sym (append_assoc (sent_by f.before) (take part.0 bytes) (drop part.0 bytes)))
+              ∙ sym (append_assoc (sent_by p.records) (sent_by f.before ++ take part.0 bytes) (drop part.0 bytes));
+          rest = omega (arith, length-drop part.0 bytes);
+          moved = moved_as (ap (λ (l : List ℕ). bytes_over ts ++ l) (append-nil t.bytes) ∙ sym (append-nil _)) refl
+              (moved_both o (moved_both p.moved (moved_both (begun_moved r.begun) (moved_both (replies_moved f.before q.1) part.1))));
+        }
+
+    pub sums : {b b' : Port H h l} {x y : O} {r : Result Finish Error} → Served op b x r b' y → Sums b (known x) r b' (known y)
+    sums (turns.unstarted o) = nothing_made (means _ _ _ o)
+    sums (turns.finished start t o p q) = let u = over_more (over p).1 q in (sum_of (means _ _ _ o) u, sum_whole (means _ _ _ o) u)
+    sums (turns.failed start o p (turns.at_read r e)) = sum_read (means _ _ _ o) (over p).1 (read_failed r) e
+    sums (turns.failed start o p (turns.at_clock bytes r c e)) =
+        sum_read (means _ _ _ o) (over p).1 (moved_as (append-nil bytes) refl (moved_both (read_moved r) (means _ _ _ c))) e
+    sums (turns.failed start o p (turns.at_reply t r)) = sum_lost (means _ _ _ o) (over p).1 r

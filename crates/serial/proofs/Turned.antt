@@ -5,14 +5,17 @@ use Rattle.std.specs.declared.io.Error.{Error}
 use Rattle.std.proofs.lemmas.List.{take_more, take-append-drop, map-append, replicate-append-replicate}
 use Rattle.end.specs.declared.call.Call.{Call}
 use Rattle.end.specs.declared.call.Call.TheVariants.{Byte, Tick}
+use Rattle.end.specs.declared.end.End.{End}
+use Rattle.end.specs.Ends.{CallsOn, HeadOver}
+use Rattle.end.specs.Ends as ends
 use Rattle.end.specs.Faults.{Answer}
 use Rattle.end.specs.Records.{Record, calls_of, sent_by, room_for, record_of}
-use Rattle.end.specs.Runs.{Calls}
-use Rattle.end.specs.Runs as runs
-use Rattle.end.specs.States.{State, InRange}
-use Rattle.end.specs.Steps.{Step}
-use Rattle.end.proofs.Runs.{behind, calls_then}
+use Rattle.end.specs.States.{InRange, state}
+use Rattle.end.specs.Steps.{Step, deed_of}
+use Rattle.end.proofs.Runs.{behind_on, calls_on_then}
 use Rattle.head.specs.declared.outcome.Endings.{Endings}
+use Rattle.head.specs.declared.traits.Head.{Ghosts as HeadGhosts}
+use Rattle.head.specs.declared.traits.Look.{Ghosts as LookGhosts}
 use Rattle.serial.specs.Outside.{Operation, Operating, Operated, none, then, writes}
 use Rattle.serial.specs.Turns.{HadRoom, reply, replies, Answered, Failed}
 
@@ -46,31 +49,24 @@ unreplied (b ∷ bs) e = absurd (omega (arith, e))
 
 -- One call.
 
-one : {s s' : State} (r : Record) → Step s r s' → InRange s' → Calls s (r ∷ []) s'
-one r step ranged = runs.then r runs.none step ranged
+module _ {O : Type 0} {op : Operating O} {H : Type 0} {h : HeadGhosts H} {l : LookGhosts H} where
+  pub one_answered : {c : Call} {end end' : End H h l} {x y : O} (a : Answer) (sent : List ℕ) (e : Endings) →
+      Step (state end) (record_of c (room_for c 16) a sent e) (state end') → InRange (state end') →
+      HeadOver (deed_of (state end) (record_of c (room_for c 16) a sent e)) end end' → Operated op x (reply sent (Ok tt)) y →
+      Answered op (c ∷ []) end x end' y
+  one_answered {c = c} a sent e step ranged head w =
+      let r = record_of c (room_for c 16) a sent e in
+      let made = ends.CallsOn.then r ends.CallsOn.none step ranged head in
+      record { records = r ∷ []; asked = refl; made = made; room = (refl, tt); law = behind_on made; written = w }
 
-pub one_answered : {O : Type 0} {op : Operating O} {c : Call} {s s' : State} {x y : O} (a : Answer) (sent : List ℕ) (e : Endings) →
-    Step s (record_of c (room_for c 16) a sent e) s' → InRange s' → Operated op x (reply sent (Ok tt)) y → Answered op (c ∷ []) s x s' y
-one_answered {c = c} a sent e step ranged w =
-    let p = one (record_of c (room_for c 16) a sent e) step ranged in
-    record { records = record_of c (room_for c 16) a sent e ∷ []; asked = refl; made = p; room = (refl, tt); law = behind p; written = w }
-
-pub one_failed : {O : Type 0} {op : Operating O} {c : Call} {s s' : State} {x y : O} (a : Answer) (sent : List ℕ) (e : Endings) (why : Error) →
-    Step s (record_of c (room_for c 16) a sent e) s' → InRange s' → 0 < length sent → Operated op x (writes sent (Err why) ∷ []) y →
-    Failed op (c ∷ []) why s x s' y
-one_failed {c = c} a sent e why step ranged some w =
-    let p = one (record_of c (room_for c 16) a sent e) step ranged in
-    record {
-      last = record_of c (room_for c 16) a sent e;
-      before = [];
-      left = [];
-      asked = refl;
-      made = p;
-      room = (refl, tt);
-      law = behind p;
-      lost = some;
-      written = w;
-    }
+  pub one_failed : {c : Call} {end end' : End H h l} {x y : O} (a : Answer) (sent : List ℕ) (e : Endings) (why : Error) →
+      Step (state end) (record_of c (room_for c 16) a sent e) (state end') → InRange (state end') →
+      HeadOver (deed_of (state end) (record_of c (room_for c 16) a sent e)) end end' → 0 < length sent →
+      Operated op x (writes sent (Err why) ∷ []) y → Failed op (c ∷ []) why end x end' y
+  one_failed {c = c} a sent e why step ranged head some w =
+      let r = record_of c (room_for c 16) a sent e in
+      let made = ends.CallsOn.then r ends.CallsOn.none step ranged head in
+      record { last = r; before = []; left = []; asked = refl; made = made; room = (refl, tt); law = behind_on made; lost = some; written = w }
 
 -- One after the other.
 
@@ -91,68 +87,70 @@ pub room_both : (h h' : List Record) → HadRoom h → HadRoom h' → HadRoom (h
 room_both h [] p q = p
 room_both h (r ∷ h') p q = (q.0, room_both h h' p q.1)
 
-pub none_answered : {O : Type 0} {op : Operating O} {s : State} {x : O} → Answered op [] s x s x
-none_answered = record { records = []; asked = refl; made = runs.none; room = tt; law = behind runs.none; written = none }
+module _ {O : Type 0} {op : Operating O} {H : Type 0} {h : HeadGhosts H} {l : LookGhosts H} where
+  pub none_answered : {end : End H h l} {x : O} → Answered op [] end x end x
+  none_answered {end = end} =
+      record { records = []; asked = refl; made = ends.CallsOn.none; room = tt; law = behind_on {x = end} ends.CallsOn.none; written = none }
 
-pub answered_both : {O : Type 0} {op : Operating O} {cs ds : List Call} {s s' s'' : State} {x y z : O} →
-    Answered op cs s x s' y → Answered op ds s' y s'' z → Answered op (cs ++ ds) s x s'' z
-answered_both {cs = cs} p q =
-    let made = calls_then p.made q.made in
-    record {
-      records = q.records ++ p.records;
-      asked = sym (calls_of_both p.records q.records) ∙ ap (λ (l : List Call). l ++ calls_of q.records) p.asked ∙ ap (λ (l : List Call). cs ++ l) q.asked;
-      made = made;
-      room = room_both p.records q.records p.room q.room;
-      law = behind made;
-      written = operated_as (replies_both p.records q.records) (operated_both p.written q.written);
-    }
+  pub answered_both : {cs ds : List Call} {end end' end'' : End H h l} {x y z : O} →
+      Answered op cs end x end' y → Answered op ds end' y end'' z → Answered op (cs ++ ds) end x end'' z
+  answered_both {cs = cs} p q =
+      let made = calls_on_then p.made q.made in
+      record {
+        records = q.records ++ p.records;
+        asked = sym (calls_of_both p.records q.records) ∙ ap (λ (l : List Call). l ++ calls_of q.records) p.asked ∙ ap (λ (l : List Call). cs ++ l) q.asked;
+        made = made;
+        room = room_both p.records q.records p.room q.room;
+        law = behind_on made;
+        written = operated_as (replies_both p.records q.records) (operated_both p.written q.written);
+      }
 
-pub failed_behind : {O : Type 0} {op : Operating O} {cs ds : List Call} {e : Error} {s s' s'' : State} {x y z : O} →
-    Answered op cs s x s' y → Failed op ds e s' y s'' z → Failed op (cs ++ ds) e s x s'' z
-failed_behind {cs = cs} {e = e} p q =
-    let h = q.last ∷ q.before in
-    let made = calls_then p.made q.made in
-    record {
-      last = q.last;
-      before = q.before ++ p.records;
-      left = q.left;
-      asked =
-          ap (λ (l : List Call). l ++ q.left) (sym (calls_of_both p.records h))
-          ∙ append_assoc (calls_of p.records) (calls_of h) q.left
-          ∙ ap (λ (l : List Call). l ++ (calls_of h ++ q.left)) p.asked
-          ∙ ap (λ (l : List Call). cs ++ l) q.asked;
-      made = made;
-      room = room_both p.records h p.room q.room;
-      law = behind made;
-      lost = q.lost;
-      written = operated_as
-          (sym (append_assoc (replies p.records) (replies q.before) (writes q.last.fed.sent (Err e) ∷ []))
-          ∙ ap (λ (l : List Operation). l ++ writes q.last.fed.sent (Err e) ∷ []) (replies_both p.records q.before))
-          (operated_both p.written q.written);
-    }
+  pub failed_behind : {cs ds : List Call} {e : Error} {end end' end'' : End H h l} {x y z : O} →
+      Answered op cs end x end' y → Failed op ds e end' y end'' z → Failed op (cs ++ ds) e end x end'' z
+  failed_behind {cs = cs} {e = e} p q =
+      let rs = q.last ∷ q.before in
+      let made = calls_on_then p.made q.made in
+      record {
+        last = q.last;
+        before = q.before ++ p.records;
+        left = q.left;
+        asked =
+            ap (λ (l : List Call). l ++ q.left) (sym (calls_of_both p.records rs))
+            ∙ append_assoc (calls_of p.records) (calls_of rs) q.left
+            ∙ ap (λ (l : List Call). l ++ (calls_of rs ++ q.left)) p.asked
+            ∙ ap (λ (l : List Call). cs ++ l) q.asked;
+        made = made;
+        room = room_both p.records rs p.room q.room;
+        law = behind_on made;
+        lost = q.lost;
+        written = operated_as
+            (sym (append_assoc (replies p.records) (replies q.before) (writes q.last.fed.sent (Err e) ∷ []))
+            ∙ ap (λ (l : List Operation). l ++ writes q.last.fed.sent (Err e) ∷ []) (replies_both p.records q.before))
+            (operated_both p.written q.written);
+      }
 
--- calls that were still to be made
-pub failed_before : {O : Type 0} {op : Operating O} {cs : List Call} (ds : List Call) {e : Error} {s s' : State} {x y : O} →
-    Failed op cs e s x s' y → Failed op (cs ++ ds) e s x s' y
-failed_before ds q = record {
-  last = q.last;
-  before = q.before;
-  left = q.left ++ ds;
-  asked = sym (append_assoc (calls_of (q.last ∷ q.before)) q.left ds) ∙ ap (λ (l : List Call). l ++ ds) q.asked;
-  made = q.made;
-  room = q.room;
-  law = q.law;
-  lost = q.lost;
-  written = q.written;
-}
+  -- calls that were still to be made
+  pub failed_before : {cs : List Call} (ds : List Call) {e : Error} {end end' : End H h l} {x y : O} →
+      Failed op cs e end x end' y → Failed op (cs ++ ds) e end x end' y
+  failed_before ds q = record {
+    last = q.last;
+    before = q.before;
+    left = q.left ++ ds;
+    asked = sym (append_assoc (calls_of (q.last ∷ q.before)) q.left ds) ∙ ap (λ (l : List Call). l ++ ds) q.asked;
+    made = q.made;
+    room = q.room;
+    law = q.law;
+    lost = q.lost;
+    written = q.written;
+  }
+
+  pub answered_as : {cs ds : List Call} {end end' : End H h l} {x y : O} → cs ≡ ds → Answered op cs end x end' y → Answered op ds end x end' y
+  answered_as {end = end} {end' = end'} {x = x} {y = y} e p = subst (λ (l : List Call). Answered op l end x end' y) e p
+
+  pub failed_as : {cs ds : List Call} {e : Error} {end end' : End H h l} {x y : O} → cs ≡ ds → Failed op cs e end x end' y → Failed op ds e end x end' y
+  failed_as {e = e} {end = end} {end' = end'} {x = x} {y = y} c p = subst (λ (l : List Call). Failed op l e end x end' y) c p
 
 -- In a loop, and where it fails.
-
-pub answered_as : {O : Type 0} {op : Operating O} {cs ds : List Call} {s s' : State} {x y : O} → cs ≡ ds → Answered op cs s x s' y → Answered op ds s x s' y
-answered_as {op = op} {s = s} {s' = s'} {x = x} {y = y} e p = subst (λ (l : List Call). Answered op l s x s' y) e p
-
-pub failed_as : {O : Type 0} {op : Operating O} {cs ds : List Call} {e : Error} {s s' : State} {x y : O} → cs ≡ ds → Failed op cs e s x s' y → Failed op ds e s x s' y
-failed_as {op = op} {e = e} {s = s} {s' = s'} {x = x} {y = y} c p = subst (λ (l : List Call). Failed op l e s x s' y) c p
 
 pub more_bytes : (bs : List ℕ) (i : ℕ) → i < length bs → map Byte (take (i + 1) bs) ≡ map Byte (take i bs) ++ Byte (get_or bs i 0) ∷ []
 more_bytes bs i lt = ap (λ (l : List ℕ). map Byte l) (take_more bs i 0 lt) ∙ map-append Byte (take i bs) (get_or bs i 0 ∷ [])

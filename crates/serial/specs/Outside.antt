@@ -17,8 +17,8 @@ pub data Operation : Type 0 where
   tells : Result Instant Error → Operation
 
 -- the bytes that a read gave which answered so, on a buffer that then holds these
-abbrev pub given : Result ℕ Error → List ℕ → Result (List ℕ) Error
-given r buffer = result_map_both (λ n. take n buffer) (λ e. e) r
+abbrev pub bytes_read : Result ℕ Error → List ℕ → Result (List ℕ) Error
+bytes_read r buffer = result_map_both (λ n. take n buffer) (λ e. e) r
 
 -- How an outside comes from one value to another.
 abbrev pub Operating : Type 0 → Type 1

@@ -1,4 +1,5 @@
 -- What a turn does: calls made in order on an end, each with its reply put on the line before the next; and what serving comes to.
+-- The end and its head stand for themselves, and not for what they mean: what a call is to a head, only that very call shows.
 use Rattle.std.specs.Prelude.{◌≡◌, ◌≢◌, ℕ, ◌-◌, ◌/◌, ◌^◌, ◌<◌, min, max, List, [], ◌∷◌, ◌++◌, length, map, replicate, Some, None, Ok, Err, Option, Result, IfErr}
 use Rattle.std.specs.IoError.{error_kind}
 use Rattle.std.specs.Time.{instant_nanos}
@@ -8,12 +9,11 @@ use Rattle.std.specs.declared.time.Instant.{Instant}
 use Rattle.end.specs.declared.call.Call.{Call}
 use Rattle.end.specs.declared.call.Call.TheVariants.{Byte, Tick}
 use Rattle.end.specs.declared.end.End.{End}
+use Rattle.end.specs.Ends.{CallsOn, TakesOver}
 use Rattle.end.specs.Law.{LawfulBehind}
 use Rattle.end.specs.Records.{Record, calls_of, room_for}
-use Rattle.end.specs.Runs.{Calls}
-use Rattle.end.specs.States.{State, state}
+use Rattle.end.specs.States.{meaning, state}
 use Rattle.end.specs.Steps.{Made}
-use Rattle.head.specs.Meaning.{Meaning}
 use Rattle.head.specs.declared.traits.Head.{Ghosts as HeadGhosts}
 use Rattle.head.specs.declared.traits.Look.{Ghosts as LookGhosts}
 use Rattle.serial.specs.declared.port.Port.{Port}
@@ -43,55 +43,58 @@ abbrev pub replies : List Record → List Operation
 replies [] = []
 replies (r ∷ h) = replies h ++ reply r.fed.sent (Ok tt)
 
--- these calls were made in turn from s to s', and what each sent was written
-pub record Answered {O : Type 0} (op : Operating O) (calls : List Call) (s : State) (x : O) (s' : State) (y : O) : Type 0 where
-  pub records : List Record
-  pub asked : calls_of records ≡ calls
-  pub made : Calls s records s'
-  pub room : HadRoom records
-  pub law : LawfulBehind s records s'
-  pub written : Operated op x (replies records) y
+module _ {O : Type 0} (op : Operating O) {H : Type 0} {h : HeadGhosts H} {l : LookGhosts H} where
+  -- By just these calls, in turn, the end came from one value to another, and at each its head by just the calls of what was done;
+  -- what each sent was written.
+  pub record Answered (calls : List Call) (end : End H h l) (x : O) (end' : End H h l) (y : O) : Type 0 where
+    pub records : List Record
+    pub asked : calls_of records ≡ calls
+    pub made : CallsOn end records end'
+    pub room : HadRoom records
+    pub law : LawfulBehind (state end) records (state end')
+    pub written : Operated op x (replies records) y
 
--- What a call sent could not be written, for the reason e, and no call was made after it: each reply goes out before the next call
--- is made.
-pub record Failed {O : Type 0} (op : Operating O) (calls : List Call) (e : Error) (s : State) (x : O) (s' : State) (y : O) : Type 0 where
-  pub last : Record
-  pub before : List Record
-  pub left : List Call
-  pub asked : calls_of (last ∷ before) ++ left ≡ calls
-  pub made : Calls s (last ∷ before) s'
-  pub room : HadRoom (last ∷ before)
-  pub law : LawfulBehind s (last ∷ before) s'
-  pub lost : 0 < length last.fed.sent
-  pub written : Operated op x (replies before ++ writes last.fed.sent (Err e) ∷ []) y
+  -- What a call sent could not be written, for the reason e, and no call was made after it: each reply goes out before the next call
+  -- is made.
+  pub record Failed (calls : List Call) (e : Error) (end : End H h l) (x : O) (end' : End H h l) (y : O) : Type 0 where
+    pub last : Record
+    pub before : List Record
+    pub left : List Call
+    pub asked : calls_of (last ∷ before) ++ left ≡ calls
+    pub made : CallsOn end (last ∷ before) end'
+    pub room : HadRoom (last ∷ before)
+    pub law : LawfulBehind (state end) (last ∷ before) (state end')
+    pub lost : 0 < length last.fed.sent
+    pub written : Operated op x (replies before ++ writes last.fed.sent (Err e) ∷ []) y
 
--- Turn after turn.
+-- A box, which is a port: its end, the ticks paid, the silence of the line, and after how many quiet reads serving ends.
+module _ {H : Type 0} {h : HeadGhosts H} {l : LookGhosts H} where
+  abbrev pub end_of : Port H h l → End H h l
+  end_of p = p.end
 
--- a box: its end, the ticks paid, the silence of the line, and after how many quiet reads serving ends
-pub record Box : Type 0 where
-  pub end : State
-  pub ticks : Ticks
-  pub silence : Silence
-  pub quiet : Option ℕ
+  -- of an end just made of this head: no tick is paid, and nothing was heard
+  pub record Fresh (given : H) (tick : ℕ) (reads : Option ℕ) (p : Port H h l) : Type 0 where
+    pub head : TakesOver given p.end
+    pub made : Made (meaning l h.slots given) (state p.end)
+    pub ticks : p.ticks ≡ record { length = tick; paid = 0 }
+    pub silence : p.silence ≡ record { reads = 0; since = 0 }
+    pub quiet : p.quiet ≡ reads
 
-abbrev pub box : {H : Type 0} {h : HeadGhosts H} {l : LookGhosts H} → Port H h l → Box
-box {h = h} {l = l} p = record { end = state p.end; ticks = p.ticks; silence = p.silence; quiet = p.quiet }
+  -- the calls of a turn after a read of these bytes, by the ticks that are owed at this time
+  abbrev pub calls_due : Port H h l → List ℕ → ℕ → List Call
+  calls_due p bytes now = calls_in bytes (owed p.ticks now)
 
-abbrev pub end_of : {H : Type 0} {h : HeadGhosts H} {l : LookGhosts H} → Port H h l → End H h l
-end_of p = p.end
+  -- what ends serving then, if anything does
+  abbrev pub finish_of : Port H h l → List ℕ → ℕ → Option Finish
+  finish_of p bytes now = finish p.silence (length bytes) now p.quiet
 
--- a box of an end just made of a head that means m: no tick is paid, and nothing was heard
-pub record Fresh (m : Meaning) (tick : ℕ) (reads : Option ℕ) (b : Box) : Type 0 where
-  pub made : Made m b.end
-  pub ticks : b.ticks ≡ record { length = tick; paid = 0 }
-  pub silence : b.silence ≡ record { reads = 0; since = 0 }
-  pub quiet : b.quiet ≡ reads
+  -- what such a turn leaves of ticks and silence
+  pub record Counted (bytes : List ℕ) (now : ℕ) (p p' : Port H h l) : Type 0 where
+    pub ticks : p'.ticks ≡ paid_at p.ticks now
+    pub silence : p'.silence ≡ heard p.silence (length bytes) now
+    pub quiet : p'.quiet ≡ p.quiet
 
--- between turns: a box, the time of its last turn, and what is outside
-pub record Moment (O : Type 0) : Type 0 where
-  pub box : Box
-  pub time : ℕ
-  pub outside : O
+-- Reading, and the time.
 
 -- what a turn begins with: the bytes of a read, and what the clock told after it
 pub record Turn : Type 0 where
@@ -106,56 +109,66 @@ time_then start time told = max time (min ((instant_nanos told - instant_nanos s
 abbrev pub most_read : ℕ
 most_read = 256
 
--- a read that answered r; one that a signal broke off, before a byte came, is made again
-pub data Unbroken {O : Type 0} (op : Operating O) : O → Result (List ℕ) Error → O → Type 0 where
-  read : {x y : O} (r : Result (List ℕ) Error) → IfErr r (λ e. error_kind e ≢ Interrupted) → op x (reads most_read r) y → Unbroken op x r y
-  again : {x y z : O} {r : Result (List ℕ) Error} (e : Error) → error_kind e ≡ Interrupted → op x (reads most_read (Err e)) y → Unbroken op y r z → Unbroken op x r z
+module _ {O : Type 0} (op : Operating O) where
+  -- a read that answered r; one that a signal broke off, before a byte came, is made again
+  pub data Unbroken : O → Result (List ℕ) Error → O → Type 0 where
+    read : {x y : O} (r : Result (List ℕ) Error) → IfErr r (λ e. error_kind e ≢ Interrupted) → op x (reads most_read r) y → Unbroken x r y
+    again : {x y z : O} {r : Result (List ℕ) Error} (e : Error) → error_kind e ≡ Interrupted → op x (reads most_read (Err e)) y →
+        Unbroken y r z → Unbroken x r z
 
-pub record Begun {O : Type 0} (op : Operating O) (x : O) (t : Turn) (y : O) : Type 0 where
-  pub between : O
-  pub read : Unbroken op x (Ok t.bytes) between
-  pub clock : op between (tells (Ok t.told)) y
+  pub record Begun (x : O) (t : Turn) (y : O) : Type 0 where
+    pub between : O
+    pub read : Unbroken x (Ok t.bytes) between
+    pub clock : op between (tells (Ok t.told)) y
 
--- the calls that a turn makes, by the ticks that are owed at its time
-abbrev pub calls_then : Instant → Ticks → ℕ → Turn → List Call
-calls_then start ticks time t = calls_in t.bytes (owed ticks (time_then start time t.told))
+-- Turn after turn.
 
--- what a turn leaves of time, ticks and silence
-pub record Kept {O : Type 0} (start : Instant) (m : Moment O) (t : Turn) (m' : Moment O) : Type 0 where
-  pub time : m'.time ≡ time_then start m.time t.told
-  pub ticks : m'.box.ticks ≡ paid_at m.box.ticks m'.time
-  pub silence : m'.box.silence ≡ heard m.box.silence (length t.bytes) m'.time
-  pub quiet : m'.box.quiet ≡ m.box.quiet
+-- between turns: a box, the time of its last turn, and what is outside
+pub record Moment (O H : Type 0) (h : HeadGhosts H) (l : LookGhosts H) : Type 0 where
+  pub port : Port H h l
+  pub time : ℕ
+  pub outside : O
 
--- a whole turn from m to m', with what ends serving then, if anything does
-pub record TurnMade {O : Type 0} (op : Operating O) (start : Instant) (m : Moment O) (t : Turn) (h : Option Finish) (m' : Moment O) : Type 0 where
-  pub between : O
-  pub begun : Begun op m.outside t between
-  pub answered : Answered op (calls_then start m.box.ticks m.time t) m.box.end between m'.box.end m'.outside
-  pub kept : Kept start m t m'
-  pub told : h ≡ finish m.box.silence (length t.bytes) m'.time m.box.quiet
+-- when serving starts, time is 0
+abbrev pub started : {O H : Type 0} {h : HeadGhosts H} {l : LookGhosts H} → Port H h l → O → Moment O H h l
+started p x = record { port = p; time = 0; outside = x }
 
--- whole turns after which the line went on, the newest first
-pub data TurnsMade {O : Type 0} (op : Operating O) (start : Instant) (m : Moment O) : List Turn → Moment O → Type 0 where
-  none : TurnsMade op start m [] m
-  then : {ts : List Turn} {m' m'' : Moment O} (t : Turn) → TurnsMade op start m ts m' → TurnMade op start m' t None m'' → TurnsMade op start m (t ∷ ts) m''
+module _ {O : Type 0} (op : Operating O) {H : Type 0} {h : HeadGhosts H} {l : LookGhosts H} (start : Instant) where
+  -- a whole turn from m to m', with what ends serving then, if anything does
+  pub record TurnMade (m : Moment O H h l) (t : Turn) (f : Option Finish) (m' : Moment O H h l) : Type 0 where
+    pub between : O
+    pub begun : Begun op m.outside t between
+    pub time : m'.time ≡ time_then start m.time t.told
+    pub answered : Answered op (calls_due m.port t.bytes m'.time) m.port.end between m'.port.end m'.outside
+    pub counted : Counted t.bytes m'.time m.port m'.port
+    pub told : f ≡ finish_of m.port t.bytes m'.time
 
--- A turn in which a read, the clock or a write failed, with the error e; no call was made after that.
-pub data TurnFailed {O : Type 0} (op : Operating O) (start : Instant) (m : Moment O) (e : Error) (m' : Moment O) : Type 0 where
-  at_read : Unbroken op m.outside (Err e) m'.outside → m'.box ≡ m.box → TurnFailed op start m e m'
-  at_clock : (bytes : List ℕ) {between : O} → Unbroken op m.outside (Ok bytes) between → op between (tells (Err e)) m'.outside → m'.box ≡ m.box →
-      TurnFailed op start m e m'
-  at_reply : (t : Turn) {between : O} → Begun op m.outside t between →
-      Failed op (calls_then start m.box.ticks m.time t) e m.box.end between m'.box.end m'.outside → Kept start m t m' → TurnFailed op start m e m'
+  -- whole turns after which the line went on, the newest first
+  pub data TurnsMade (m : Moment O H h l) : List Turn → Moment O H h l → Type 0 where
+    none : TurnsMade m [] m
+    then : {ts : List Turn} {m' m'' : Moment O H h l} (t : Turn) → TurnsMade m ts m' → TurnMade m' t None m'' → TurnsMade m (t ∷ ts) m''
+
+  -- a turn in which a reply could not be written, for the reason e
+  pub record ReplyLost (m : Moment O H h l) (t : Turn) (e : Error) (m' : Moment O H h l) : Type 0 where
+    pub between : O
+    pub begun : Begun op m.outside t between
+    pub time : m'.time ≡ time_then start m.time t.told
+    pub failed : Failed op (calls_due m.port t.bytes m'.time) e m.port.end between m'.port.end m'.outside
+    pub counted : Counted t.bytes m'.time m.port m'.port
+
+  -- A turn in which a read, the clock or a write failed, with the error e; no call was made after that.
+  pub data TurnFailed (m : Moment O H h l) (e : Error) (m' : Moment O H h l) : Type 0 where
+    at_read : Unbroken op m.outside (Err e) m'.outside → m'.port ≡ m.port → TurnFailed m e m'
+    at_clock : (bytes : List ℕ) {between : O} → Unbroken op m.outside (Ok bytes) between → op between (tells (Err e)) m'.outside →
+        m'.port ≡ m.port → TurnFailed m e m'
+    at_reply : (t : Turn) → ReplyLost m t e m' → TurnFailed m e m'
 
 -- Serving a line: the clock is asked when it starts, and turn comes after turn, each with all its calls, until one ends it or
--- something fails. Time is 0 at the start.
-abbrev pub started : {O : Type 0} → Box → O → Moment O
-started b x = record { box = b; time = 0; outside = x }
-
-pub data Served {O : Type 0} (op : Operating O) (b : Box) (x : O) : Result Finish Error → Box → O → Type 0 where
-  unstarted : {e : Error} {y : O} → op x (tells (Err e)) y → Served op b x (Err e) b y
-  finished : (start : Instant) {z : O} {ts : List Turn} {m m' : Moment O} (t : Turn) {h : Finish} →
-      op x (tells (Ok start)) z → TurnsMade op start (started b z) ts m → TurnMade op start m t (Some h) m' → Served op b x (Ok h) m'.box m'.outside
-  failed : (start : Instant) {z : O} {ts : List Turn} {m m' : Moment O} {e : Error} →
-      op x (tells (Ok start)) z → TurnsMade op start (started b z) ts m → TurnFailed op start m e m' → Served op b x (Err e) m'.box m'.outside
+-- something fails.
+pub data Served {O : Type 0} (op : Operating O) {H : Type 0} {h : HeadGhosts H} {l : LookGhosts H} (p : Port H h l) (x : O) :
+    Result Finish Error → Port H h l → O → Type 0 where
+  unstarted : {e : Error} {y : O} → op x (tells (Err e)) y → Served op p x (Err e) p y
+  finished : (start : Instant) {z : O} {ts : List Turn} {m m' : Moment O H h l} (t : Turn) {f : Finish} → op x (tells (Ok start)) z →
+      TurnsMade op start (started p z) ts m → TurnMade op start m t (Some f) m' → Served op p x (Ok f) m'.port m'.outside
+  failed : (start : Instant) {z : O} {ts : List Turn} {m m' : Moment O H h l} {e : Error} → op x (tells (Ok start)) z →
+      TurnsMade op start (started p z) ts m → TurnFailed op start m e m' → Served op p x (Err e) m'.port m'.outside

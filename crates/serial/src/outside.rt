@@ -5,7 +5,7 @@
 
 ghost use Rattle.std.specs.Prelude.{length};
 ghost use Rattle.std.specs.Io.{ReadsAtMost};
-ghost use Rattle.serial.specs.Outside.{Known, Means, Operation, given, reads, tells, writes};
+ghost use Rattle.serial.specs.Outside.{Known, Means, Operation, bytes_read, reads, tells, writes};
 
 use std::io;
 use std::time::Instant;
@@ -21,7 +21,7 @@ pub trait Outside {
     /// Reads some bytes; none, if none came in time.
     fn read(&mut self, buffer: &mut [u8]) -> io::Result<usize>
         ensures within { ReadsAtMost result buffer.new }
-        ensures operated { operated self.old (reads (length buffer.old) (given result buffer.new)) self.new };
+        ensures operated { operated self.old (reads (length buffer.old) (bytes_read result buffer.new)) self.new };
 
     /// Writes all of the bytes, and waits until they are on their way.
     fn write(&mut self, bytes: &[u8]) -> io::Result<()>

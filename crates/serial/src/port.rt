@@ -4,14 +4,10 @@ ghost use Rattle.std.specs.Prelude.{◌≡◌, ◌-◌, ◌/◌, ◌^◌, ◌<�
 ghost use Rattle.std.specs.Io.{ReadsAtMost};
 ghost use Rattle.std.specs.IoError.{error_kind};
 ghost use Rattle.std.specs.Time.{instant_nanos};
-ghost use Rattle.end.specs.Ends.{TakesOver};
-ghost use Rattle.end.specs.States.{meaning, state};
 ghost use Rattle.end.specs.declared.call.Call.TheVariants.{Byte, Tick};
-ghost use Rattle.serial.specs.Outside.{Operated, given, writes};
-ghost use Rattle.serial.specs.Silences.{finish, heard};
+ghost use Rattle.serial.specs.Outside.{Operated, bytes_read, writes};
 ghost use Rattle.serial.specs.Sums.{Sums};
-ghost use Rattle.serial.specs.Ticks.{owed, paid_at};
-ghost use Rattle.serial.specs.Turns.{Answered, Failed, Fresh, Served, Unbroken, box, end_of, calls_in, reply as reply_of};
+ghost use Rattle.serial.specs.Turns.{Answered, Counted, Failed, Fresh, Served, Unbroken, calls_due, end_of, finish_of, reply as reply_of};
 
 use crate::outside::Outside;
 use crate::silence::{Finish, Silence};
@@ -39,9 +35,9 @@ fn reply<O: Outside>(sent: &[u8], outside: &mut O) -> io::Result<()>
 
 fn answer_byte<H: Head, O: Outside>(end: &mut End<H>, byte: u8, outside: &mut O) -> io::Result<()>
     ensures answered { OnOk result (Answered O.operated (Byte byte ∷ [])
-        (state end.old) outside.old (state end.new) outside.new) }
+        end.old outside.old end.new outside.new) }
     ensures failed { IfErr result (λ e. Failed O.operated (Byte byte ∷ []) e
-        (state end.old) outside.old (state end.new) outside.new) }
+        end.old outside.old end.new outside.new) }
 {
     let mut buffer = [0; ROOM];
     let count = bytes_sent(end.byte(byte, &mut buffer));
@@ -50,9 +46,9 @@ fn answer_byte<H: Head, O: Outside>(end: &mut End<H>, byte: u8, outside: &mut O)
 
 fn answer_tick<H: Head, O: Outside>(end: &mut End<H>, outside: &mut O) -> io::Result<()>
     ensures answered { OnOk result (Answered O.operated (Tick ∷ [])
-        (state end.old) outside.old (state end.new) outside.new) }
+        end.old outside.old end.new outside.new) }
     ensures failed { IfErr result (λ e. Failed O.operated (Tick ∷ []) e
-        (state end.old) outside.old (state end.new) outside.new) }
+        end.old outside.old end.new outside.new) }
 {
     let mut buffer = [0; ROOM];
     let count = bytes_sent(end.tick(&mut buffer));
@@ -65,9 +61,9 @@ fn answer_bytes<H: Head, O: Outside>(
     outside: &mut O,
 ) -> io::Result<()>
     ensures answered { OnOk result (Answered O.operated (map Byte bytes.now)
-        (state end.old) outside.old (state end.new) outside.new) }
+        end.old outside.old end.new outside.new) }
     ensures failed { IfErr result (λ e. Failed O.operated (map Byte bytes.now) e
-        (state end.old) outside.old (state end.new) outside.new) }
+        end.old outside.old end.new outside.new) }
 {
     for byte in bytes {
         answer_byte(end, *byte, outside)?;
@@ -81,9 +77,9 @@ fn answer_ticks<H: Head, O: Outside>(
     outside: &mut O,
 ) -> io::Result<()>
     ensures answered { OnOk result (Answered O.operated (replicate ticks Tick)
-        (state end.old) outside.old (state end.new) outside.new) }
+        end.old outside.old end.new outside.new) }
     ensures failed { IfErr result (λ e. Failed O.operated (replicate ticks Tick) e
-        (state end.old) outside.old (state end.new) outside.new) }
+        end.old outside.old end.new outside.new) }
 {
     for _ in 0..ticks {
         answer_tick(end, outside)?;
@@ -102,7 +98,7 @@ fn is_interrupted(read: &io::Result<usize>) -> bool
 // Reads, and again where a signal broke the read off.
 fn read<O: Outside>(outside: &mut O, buffer: &mut [u8; READ]) -> io::Result<usize>
     ensures within { ReadsAtMost result buffer.new }
-    ensures unbroken { Unbroken O.operated outside.old (given result buffer.new) outside.new }
+    ensures unbroken { Unbroken O.operated outside.old (bytes_read result buffer.new) outside.new }
     ensures fewer { OnOk result ((O.known outside.new).left < (O.known outside.old).left) }
 {
     loop {
@@ -133,8 +129,7 @@ pub struct Port<H: Head> {
 impl<H: Head> Port<H> {
     /// An end made of the head at time 0, with no tick owed and nothing quiet yet.
     pub fn new(head: H, tick: TickLength, quiet: Option<u32>) -> Port<H>
-        ensures fresh { Fresh (meaning H.Look H.slots head) tick quiet (box result) }
-        ensures head { TakesOver head (end_of result) }
+        ensures { Fresh head tick quiet result }
     {
         Port {
             end: End::make(head),
@@ -156,15 +151,12 @@ impl<H: Head> Port<H> {
         now: u64,
         outside: &mut O,
     ) -> io::Result<Option<Finish>>
-        ensures answered { OnOk result (Answered O.operated (calls_in bytes.now (owed (box self.old).ticks now))
-            (box self.old).end outside.old (box self.new).end outside.new) }
-        ensures failed { IfErr result (λ e. Failed O.operated (calls_in bytes.now (owed (box self.old).ticks now)) e
-            (box self.old).end outside.old (box self.new).end outside.new) }
-        ensures ticks { (box self.new).ticks ≡ paid_at (box self.old).ticks now }
-        ensures silence { (box self.new).silence ≡ heard (box self.old).silence (length bytes.now) now }
-        ensures quiet { (box self.new).quiet ≡ (box self.old).quiet }
-        ensures told { IfOk result (λ h.
-            h ≡ finish (box self.old).silence (length bytes.now) now (box self.old).quiet) }
+        ensures answered { OnOk result (Answered O.operated (calls_due self.old bytes.now now)
+            (end_of self.old) outside.old (end_of self.new) outside.new) }
+        ensures failed { IfErr result (λ e. Failed O.operated (calls_due self.old bytes.now now) e
+            (end_of self.old) outside.old (end_of self.new) outside.new) }
+        ensures counted { Counted bytes.now now self.old self.new }
+        ensures told { IfOk result (λ f. f ≡ finish_of self.old bytes.now now) }
     {
         let finish = self.silence.heard(bytes.len(), now, self.quiet);
         let ticks = self.ticks.owed(now);
@@ -172,12 +164,13 @@ impl<H: Head> Port<H> {
         answer_ticks(&mut self.end, ticks, outside)?;
         Ok(finish)
     }
+
     /// Turn after turn, each after a read and at the time that the clock then tells, until the line is quiet or has
     /// gone: what ended it, or the error of the read, the write or the clock that failed. Time counts from the call. A
     /// read asks for a byte at least, so that one of no bytes is a quiet one.
     pub fn serve<O: Outside>(&mut self, outside: &mut O) -> io::Result<Finish>
-        ensures served { Served O.operated (box self.old) outside.old result (box self.new) outside.new }
-        ensures sums { Sums (box self.old) (O.known outside.old) result (box self.new) (O.known outside.new) }
+        ensures served { Served O.operated self.old outside.old result self.new outside.new }
+        ensures sums { Sums self.old (O.known outside.old) result self.new (O.known outside.new) }
     {
         let start = outside.now()?;
         let mut time = 0;

@@ -2,10 +2,7 @@
 
 ghost use Rattle.std.specs.Prelude.{◌≡◌, IfErr};
 ghost use Rattle.std.specs.Process.{exit_status};
-ghost use Rattle.end.specs.Ends.{head_of};
-ghost use Rattle.heads.specs.Any.{kind_of};
-ghost use Rattle.serial.specs.Program.{BoxFor, OfWords, Ran, Told, answer as answered};
-ghost use Rattle.serial.specs.Turns.{box, end_of};
+ghost use Rattle.serial.specs.Program.{BoxFor, OfWords, ProgramRan, Told, answer as answered};
 
 use crate::arguments::{Arguments, ArgumentsError};
 use crate::outside::Outside;
@@ -52,13 +49,20 @@ fn arguments<R: Env + AllocGlobal>(rt: &R) -> Result<Arguments, Failure>
     }
 }
 
+// A box over one of our heads, whichever it is.
+#[derive(Drop)]
+struct AnyBox {
+    port: Port<AnyHead>,
+}
+
 // The box that they ask for.
-fn port(arguments: Arguments) -> Port<AnyHead>
-    ensures made { BoxFor arguments (box result) }
-    ensures kind { kind_of (head_of (end_of result)) ≡ arguments.head }
+fn box_for(arguments: Arguments) -> AnyBox
+    ensures { BoxFor arguments result }
 {
     let head = AnyHead::new(arguments.head);
-    Port::new(head, arguments.tick, arguments.quiet)
+    AnyBox {
+        port: Port::new(head, arguments.tick, arguments.quiet),
+    }
 }
 
 fn answer(served: io::Result<Finish>) -> Result<(), Failure>
@@ -73,10 +77,10 @@ fn answer(served: io::Result<Finish>) -> Result<(), Failure>
 
 /// Serves with a box as the words of the program say, until the line is quiet or something fails.
 pub fn run<R: Env + AllocGlobal, O: Outside>(rt: &R, outside: &mut O) -> Result<(), Failure>
-    ensures { Ran O.operated outside.old result outside.new }
+    ensures { ProgramRan O.operated outside.old result outside.new }
 {
     let arguments = arguments(rt)?;
-    answer(port(arguments).serve(outside))
+    answer(box_for(arguments).port.serve(outside))
 }
 
 /// Runs it, tells a failure on the standard error, and gives the status: 1 for a failure, 0 else.

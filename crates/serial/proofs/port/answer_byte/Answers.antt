@@ -3,8 +3,8 @@ use Rattle.serial.proofs.port.answer_byte.Goals as goal
 
 pub returns-clause-answered : goal.returns-clause-answered
 returns-clause-answered g c =
-    at_ok c.reply.result (λ w. one_answered _ _ _ c.byte.ensures.step (record { each = g.met.H.Look.ranged c.byte.new.self.head }) (rw c.bytes_sent-count.ensures at w)) c.reply.ensures.written
+    at_ok c.reply.result (λ w. one_answered _ _ _ c.byte.ensures.step (record { each = g.met.H.Look.ranged c.byte.new.self.head }) c.byte.ensures.head (rw c.bytes_sent-count.ensures at w)) c.reply.ensures.written
 
 pub returns-clause-failed : goal.returns-clause-failed
 returns-clause-failed g c =
-    at_err c.reply.result (λ e l. one_failed _ _ _ e c.byte.ensures.step (record { each = g.met.H.Look.ranged c.byte.new.self.head }) (rw c.bytes_sent-count.ensures at l.0) (rw c.bytes_sent-count.ensures at l.1)) c.reply.ensures.lost
+    at_err c.reply.result (λ e l. one_failed _ _ _ e c.byte.ensures.step (record { each = g.met.H.Look.ranged c.byte.new.self.head }) c.byte.ensures.head (rw c.bytes_sent-count.ensures at l.0) (rw c.bytes_sent-count.ensures at l.1)) c.reply.ensures.lost

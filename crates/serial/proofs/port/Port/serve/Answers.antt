@@ -1,5 +1,5 @@
 use Rattle.std.proofs.Common.{◌≡◌, arith, rules, refl}
-use Rattle.serial.specs.Turns.{Served, unstarted, at_read, at_clock, box, time_then}
+use Rattle.serial.specs.Turns.{Served, unstarted, at_read, at_clock, time_then}
 use Rattle.serial.proofs.Reading.{no_more_by}
 use Rattle.serial.proofs.Serving.{begins, err_told, turn_made, turn_lost, goes_on, ends, fails, no_more_then}
 use Rattle.serial.proofs.Summing.{sums}
@@ -7,7 +7,7 @@ use Rattle.serial.proofs.port.Port.serve.Goals as goal
 
 pub returns-in_err-start-clause-served : goal.returns-in_err-start-clause-served
 returns-in_err-start-clause-served g c =
-    err_told (λ r. Served g.O.Outside.operated (box c.args.self.now) c.args.outside.now r (box c.args.self.now) c.now.new.self) c.from_residual.result
+    err_told (λ r. Served g.O.Outside.operated c.args.self.now c.args.outside.now r c.args.self.now c.now.new.self) c.from_residual.result
     c.from_residual.ensures.1 (unstarted c.in_err-start.ensures)
 
 pub loop-count-init : goal.loop-count-init
@@ -15,36 +15,37 @@ loop-count-init g c = begins c.in_ok-start.ensures
 
 pub returns-in_err-count-clause-served : goal.returns-in_err-count-clause-served
 returns-in_err-count-clause-served g c =
-    err_told (λ r. Served g.O.Outside.operated (box c.args.self.now) c.args.outside.now r (box c.loop-count.self) c.read.new.outside)
+    err_told (λ r. Served g.O.Outside.operated c.args.self.now c.args.outside.now r c.loop-count.self c.read.new.outside)
     c.from_residual-in_err-count.result c.from_residual-in_err-count.ensures.1
-    (fails {m' = record { box = box c.loop-count.self; time = 0; outside = c.read.new.outside }} c.loop-count.invariant (at_read c.in_err-count.ensures.unbroken refl))
+    (fails {m' = record { port = c.loop-count.self; time = 0; outside = c.read.new.outside }} c.loop-count.invariant
+    (at_read c.in_err-count.ensures.unbroken refl))
 
 pub returns-in_err-now-clause-served : goal.returns-in_err-now-clause-served
 returns-in_err-now-clause-served g c =
-    err_told (λ r. Served g.O.Outside.operated (box c.args.self.now) c.args.outside.now r (box c.loop-count.self) c.now-in-loop-count.new.self)
+    err_told (λ r. Served g.O.Outside.operated c.args.self.now c.args.outside.now r c.loop-count.self c.now-in-loop-count.new.self)
     c.from_residual-in_err-now.result c.from_residual-in_err-now.ensures.1
-    (fails {m' = record { box = box c.loop-count.self; time = 0; outside = c.now-in-loop-count.new.self }} c.loop-count.invariant
+    (fails {m' = record { port = c.loop-count.self; time = 0; outside = c.now-in-loop-count.new.self }} c.loop-count.invariant
     (at_clock _ c.in_ok-count.ensures.unbroken c.in_err-now.ensures refl))
 
 pub returns-in_err-finish-clause-served : goal.returns-in_err-finish-clause-served
 returns-in_err-finish-clause-served g c =
     let e = c.turn.ensures in
     let time : c.max-time.result ≡ time_then c.in_ok-start.start c.loop-count.time c.in_ok-now.field-0 = search rules in
-    err_told (λ r. Served g.O.Outside.operated (box c.args.self.now) c.args.outside.now r (box c.turn.new.self) c.turn.new.outside)
+    err_told (λ r. Served g.O.Outside.operated c.args.self.now c.args.outside.now r c.turn.new.self c.turn.new.outside)
     c.from_residual-in_err-finish.result c.from_residual-in_err-finish.ensures.1
-    (fails c.loop-count.invariant (turn_lost c.in_ok-count.ensures.unbroken c.in_ok-now.ensures time c.in_err-finish.ensures.failed e.ticks e.silence e.quiet))
+    (fails c.loop-count.invariant (turn_lost c.in_ok-count.ensures.unbroken c.in_ok-now.ensures time c.in_err-finish.ensures.failed e.counted))
 
 pub returns-in-Some-clause-served : goal.returns-in-Some-clause-served
 returns-in-Some-clause-served g c =
     let e = c.in_ok-finish.ensures in
     let time : c.max-time.result ≡ time_then c.in_ok-start.start c.loop-count.time c.in_ok-now.field-0 = search rules in
-    ends c.loop-count.invariant (turn_made c.in_ok-count.ensures.unbroken c.in_ok-now.ensures time e.answered e.ticks e.silence e.quiet e.told) c.in-Some.is
+    ends c.loop-count.invariant (turn_made c.in_ok-count.ensures.unbroken c.in_ok-now.ensures time e.answered e.counted e.told) c.in-Some.is
 
 pub loop-count-preserved : goal.loop-count-preserved
 loop-count-preserved g c =
     let e = c.in_ok-finish.ensures in
     let time : c.max-time.result ≡ time_then c.in_ok-start.start c.loop-count.time c.in_ok-now.field-0 = search rules in
-    goes_on c.loop-count.invariant (turn_made c.in_ok-count.ensures.unbroken c.in_ok-now.ensures time e.answered e.ticks e.silence e.quiet e.told) c.in_default.is
+    goes_on c.loop-count.invariant (turn_made c.in_ok-count.ensures.unbroken c.in_ok-now.ensures time e.answered e.counted e.told) c.in_default.is
 
 pub loop-count-smaller : goal.loop-count-smaller
 loop-count-smaller g c =
