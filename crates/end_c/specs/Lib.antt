@@ -1,1 +1,5 @@
 pub mod Asked
+pub mod Calls
+pub mod Logs
+pub mod Sums
+pub mod Played

@@ -3,6 +3,7 @@
 #![tactic(auto)]
 
 mod asked;
+mod kinds;
 mod log;
 mod time;
 

@@ -1,94 +1,165 @@
 //! What each call answers, logged for a comparison.
 
-ghost use Rattle.std.specs.Prelude.{◌≡◌, ◌+◌, ◌≤◌, length, take, drop};
+ghost use Rattle.std.specs.Prelude.{◌≡◌, ◌+◌, ◌≤◌, List, ◌++◌, length, map, take, drop};
+ghost use Rattle.end.specs.declared.call.Call.TheVariants.{Byte, Tick, Open as Opens};
+ghost use Rattle.end.specs.Faults.{answered, count_told};
+ghost use Rattle.end.specs.Records.{Record};
+ghost use Rattle.heads.specs.declared.any.HeadKind.TheVariants.{Block as Blocks};
+ghost use Rattle.end_c.specs.Asked.{asked_of, dome_kind, kind_numbered};
+ghost use Rattle.end_c.specs.Calls.{AskedRun, CallLogged};
+ghost use Rattle.end_c.specs.Logs.{answer_logged, appended, bit as bit_of, log_of};
+ghost use Rattle.end_c.specs.Played.{IsLog};
 
 use crate::asked::Asked;
-use end::{Call, End, Fault, bytes_sent};
+use crate::kinds::kind;
+use end::{Call, End, Fault, ROOM, bytes_sent};
 use fault::FaultCode;
 use head::Head;
-use heads::{Block, Dome};
+use heads::{Block, Dome, HeadKind};
 use wire::send_at;
 
-// A record has a count and a fault, or which sockets are open, and then what was sent.
-const RECORD: usize = 20;
-
-// The fault as number, layer and place; 0 for none.
-fn fault(answer: Result<usize, Fault>) -> [u8; 3] {
+// The count of bytes sent, and the fault by number, layer and place; 0 for none.
+fn answer_bytes(answer: Result<usize, Fault>) -> [u8; 4]
+    requires { count_told answer ≤ 255 }
+    ensures { result ≡ answer_logged (answered answer) }
+{
+    let count = bytes_sent(answer) as u8;
     match answer {
-        Ok(_) => [0, 0, 0],
+        Ok(_) => [count, 0, 0, 0],
         Err(fault) => {
             let code = FaultCode::from(fault);
-            [code.number, code.layer.number(), code.place]
+            [count, code.number, code.layer.number(), code.place]
         }
     }
 }
 
-// The record of a byte or tick that sent these bytes, and its length.
-fn sent(answer: Result<usize, Fault>, buffer: &[u8]) -> ([u8; RECORD], usize)
-    ensures { result.1 ≤ 20 }
+// Puts bytes into the log behind the first `count`.
+fn append(log: &mut [u8], count: usize, bytes: &[u8])
+    requires { count + length bytes.now ≤ length log.old }
+    ensures front { take (count + length bytes.now) log.new ≡ take count log.old ++ bytes.now }
+    ensures untouched { drop (count + length bytes.now) log.new ≡ drop (count + length bytes.now) log.old }
 {
-    let mut record = [0; RECORD];
-    let count = bytes_sent(answer).min(buffer.len()).min(16);
-    let [number, layer, place] = fault(answer);
-    record[0] = count as u8;
-    record[1] = number;
-    record[2] = layer;
-    record[3] = place;
-    record[4..4 + count].copy_from_slice(&buffer[..count]);
-    (record, 4 + count)
+    send_at(log, count, bytes).unwrap();
 }
 
-// Makes a call, and tells its record with the record's length.
-fn call<H: Head>(end: &mut End<H>, asked: Asked) -> ([u8; RECORD], usize)
-    ensures { result.1 ≤ 20 }
-{
-    let mut buffer = [0; 16];
-    let room = asked.room.min(buffer.len());
-    let out = &mut buffer[..room];
-    match asked.call {
-        Call::Byte(byte) => {
-            let answer = end.byte(byte, out);
-            sent(answer, out)
-        }
-        Call::Tick => {
-            let answer = end.tick(out);
-            sent(answer, out)
-        }
-        Call::Open => {
-            let open = end.open();
-            let mut record = [0; RECORD];
-            record[0] = u8::from(open.one);
-            record[1] = u8::from(open.two);
-            (record, 2)
-        }
-    }
-}
-
-// Puts bytes into the log behind the first `count`, and tells how many more stand in it then: none where
-// they do not fit.
-fn put(log: &mut [u8], count: usize, bytes: &[u8]) -> usize
-    requires { count ≤ length log.old }
+// Puts an answer and what was sent into the log behind the first `count` bytes, and tells how many more stand in it
+// then: none where they do not fit.
+fn put(log: &mut [u8], count: usize, answer: &[u8], sent: &[u8]) -> usize
+    requires within { count ≤ length log.old }
+    requires few { length answer.now + length sent.now ≤ 20 }
     ensures within { count + result ≤ length log.new }
-    ensures before { take count log.new ≡ take count log.old }
+    ensures logged { take (count + result) log.new
+        ≡ appended (length log.old) (take count log.old) (answer.now ++ sent.now) }
     ensures untouched { drop (count + result) log.new ≡ drop (count + result) log.old }
 {
-    match send_at(log, count, bytes) {
-        Some(_) => bytes.len(),
-        None => 0,
+    let more = answer.len() + sent.len();
+    if log.len() - count < more {
+        return 0;
+    }
+    append(log, count, answer);
+    append(log, count + answer.len(), sent);
+    more
+}
+
+fn log_byte<H: Head>(end: &mut End<H>, byte: u8, room: usize, log: &mut [u8], count: usize) -> usize
+    requires within { count ≤ length log.old }
+    requires few { room ≤ 16 }
+    ensures within { count + result ≤ length log.new }
+    ensures logged { CallLogged (Byte byte) room (length log.old) end.old (take count log.old)
+        (take (count + result) log.new) end.new }
+    ensures untouched { drop (count + result) log.new ≡ drop (count + result) log.old }
+{
+    let mut buffer = [0; ROOM];
+    let out = &mut buffer[..room];
+    let answer = end.byte(byte, out);
+    put(
+        log,
+        count,
+        &answer_bytes(answer),
+        &out[..bytes_sent(answer)],
+    )
+}
+
+fn log_tick<H: Head>(end: &mut End<H>, room: usize, log: &mut [u8], count: usize) -> usize
+    requires within { count ≤ length log.old }
+    requires few { room ≤ 16 }
+    ensures within { count + result ≤ length log.new }
+    ensures logged { CallLogged Tick room (length log.old) end.old (take count log.old)
+        (take (count + result) log.new) end.new }
+    ensures untouched { drop (count + result) log.new ≡ drop (count + result) log.old }
+{
+    let mut buffer = [0; ROOM];
+    let out = &mut buffer[..room];
+    let answer = end.tick(out);
+    put(
+        log,
+        count,
+        &answer_bytes(answer),
+        &out[..bytes_sent(answer)],
+    )
+}
+
+fn bit(is_open: bool) -> u8
+    ensures { result ≡ bit_of is_open }
+{
+    u8::from(is_open)
+}
+
+fn log_open<H: Head>(end: &End<H>, log: &mut [u8], count: usize) -> usize
+    requires within { count ≤ length log.old }
+    ensures within { count + result ≤ length log.new }
+    ensures logged { CallLogged Opens 0 (length log.old) end.now (take count log.old)
+        (take (count + result) log.new) end.now }
+    ensures untouched { drop (count + result) log.new ≡ drop (count + result) log.old }
+{
+    let open = end.open();
+    put(log, count, &[bit(open.one), bit(open.two)], &[])
+}
+
+// Makes a call, logs it behind the first `count` bytes, and tells how many more stand in the log then.
+fn log_call<H: Head>(end: &mut End<H>, asked: Asked, log: &mut [u8], count: usize) -> usize
+    requires within { count ≤ length log.old }
+    requires few { asked.room ≤ 16 }
+    ensures within { count + result ≤ length log.new }
+    ensures logged { CallLogged asked.call asked.room (length log.old) end.old (take count log.old)
+        (take (count + result) log.new) end.new }
+    ensures untouched { drop (count + result) log.new ≡ drop (count + result) log.old }
+{
+    match asked.call {
+        Call::Byte(byte) => log_byte(end, byte, asked.room, log, count),
+        Call::Tick => log_tick(end, asked.room, log, count),
+        Call::Open => log_open(end, log, count),
     }
 }
 
-fn play<H: Head + Drop>(head: H, calls: &[u16], log: &mut [u8]) -> usize
-    ensures within { result ≤ length log.new }
-    ensures untouched { drop result log.new ≡ drop result log.old }
+fn play<H: Head>(head: H, calls: &[u16], log: &mut [u8]) -> (End<H>, usize)
+    ensures within { result.1 ≤ length log.new }
+    ensures logged { (run : List Record) × AskedRun head (map asked_of calls.now) run result.0
+        × (take result.1 log.new ≡ log_of (length log.old) run) }
+    ensures untouched { drop result.1 log.new ≡ drop result.1 log.old }
 {
     let mut end = End::make(head);
     let mut count = 0;
     for number in calls {
-        let (record, length) = call(&mut end, Asked::from(*number));
-        count += put(log, count, &record[..length]);
+        count += log_call(&mut end, Asked::from(*number), log, count);
     }
-    count
+    (end, count)
+}
+
+fn log_block(calls: &[u16], log: &mut [u8]) -> usize
+    ensures within { result ≤ length log.new }
+    ensures logged { IsLog Blocks calls.now (length log.old) (take result log.new) }
+    ensures untouched { drop result log.new ≡ drop result log.old }
+{
+    play(Block::new(), calls, log).1
+}
+
+fn log_dome(stalled: bool, calls: &[u16], log: &mut [u8]) -> usize
+    ensures within { result ≤ length log.new }
+    ensures logged { IsLog (dome_kind stalled) calls.now (length log.old) (take result log.new) }
+    ensures untouched { drop result log.new ≡ drop result log.old }
+{
+    play(Dome::new(stalled), calls, log).1
 }
 
 /// Plays calls on a fresh end over a block (0), a dome (1) or a dome that is stalled (any other number), and
@@ -98,11 +169,12 @@ fn play<H: Head + Drop>(head: H, calls: &[u16], log: &mut [u8]) -> usize
 #[unsafe(no_mangle)]
 pub extern "C" fn r3_log(head: u8, calls: &[u16], log: &mut [u8]) -> usize
     ensures within { result ≤ length log.new }
+    ensures logged { IsLog (kind_numbered head) calls.now (length log.old) (take result log.new) }
     ensures untouched { drop result log.new ≡ drop result log.old }
 {
-    match head {
-        0 => play(Block::new(), calls, log),
-        1 => play(Dome::new(false), calls, log),
-        _ => play(Dome::new(true), calls, log),
+    match kind(head) {
+        HeadKind::Block => log_block(calls, log),
+        HeadKind::Dome => log_dome(false, calls, log),
+        HeadKind::StalledDome => log_dome(true, calls, log),
     }
 }

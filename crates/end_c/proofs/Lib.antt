@@ -1,0 +1,4 @@
+pub mod Logging
+pub mod Calls
+pub mod Exact
+pub mod Counting
