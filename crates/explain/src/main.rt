@@ -3,70 +3,9 @@
 
 #![tactic(auto)]
 
-mod order;
-mod packet;
-mod words;
-
-use hexadecimal::{Hex, byte};
-use packet::explain_packet;
-use std::alloc::{AllocError, Global};
+use captures::explain_capture;
 use std::io;
-use std::io::{BufRead, BufReader};
-use std::str::from_utf8;
-use wire::{Framer, FramingFault, Packet};
-use words::explain_fault;
-
-// How many bytes a line has room for.
-const ROOM: usize = 64;
-
-// The bytes of a line, or none if it is no text, if a word is no byte, or if they are too many.
-fn parse(heap: Global, line: &[u8]) -> Result<Option<Vec<u8>>, AllocError> {
-    let Ok(line) = from_utf8(line) else {
-        return Ok(None);
-    };
-    let bytes: Option<Vec<u8>> = line.split_whitespace().map(byte).collect(heap)?;
-    Ok(bytes.filter(|bytes| bytes.len() <= ROOM))
-}
-
-fn explain_event(rt: &impl Print, event: Result<Packet, FramingFault>) -> io::Result<()> {
-    match event {
-        Ok(packet) => explain_packet(rt, &packet),
-        Err(fault) => explain_fault(rt, fault.into(), &fault),
-    }
-}
-
-// Feeds the bytes to a framer, and explains what each of them tells.
-fn explain(rt: &impl Print, bytes: &[u8]) -> io::Result<()> {
-    let mut framer = Framer::new();
-    let mut told = false;
-    for event in bytes
-        .iter()
-        .filter_map(|byte| framer.feed(*byte).transpose())
-    {
-        explain_event(rt, event)?;
-        told = true;
-    }
-    if told {
-        return Ok(());
-    }
-    println!(rt; "no whole packet")
-}
-
-fn explain_line(rt: &impl Print, heap: Global, line: &[u8]) -> io::Result<()> {
-    let Some(bytes) = parse(heap, line)? else {
-        return println!(rt; "not understood");
-    };
-    if bytes.is_empty() {
-        return Ok(());
-    }
-    print!(rt; "{}  ", Hex(bytes.as_slice()))?;
-    explain(rt, bytes.as_slice())
-}
 
 fn main(rt: HostRuntime) -> io::Result<()> {
-    let heap = rt.alloc();
-    for line in BufReader::new(heap, rt.stdin())?.split(heap, b'\n') {
-        explain_line(&rt, heap, line?.as_slice())?;
-    }
-    Ok(())
+    explain_capture(&rt, rt.stdin())
 }

@@ -1,10 +1,14 @@
 -- A byte of two hexadecimal digits.
-use Rattle.std.specs.Prelude.{ℕ, ◌+◌, ◌-◌, ◌*◌, if◌then◌else◌, ◌&&◌, List, length, Some, None, Option, ◌==◌, nat_le, slice_index}
+use Rattle.std.specs.Prelude.{ℕ, ◌+◌, ◌-◌, ◌*◌, if◌then◌else◌, ◌&&◌, List, [], ◌∷◌, Some, None, Option, nat_le}
+use Rattle.std.specs.Option.{option_or}
+
+-- a character from low to high, of which the first is worth so much
+abbrev pub digit_among : ℕ → ℕ → ℕ → ℕ → Option ℕ
+digit_among low high worth c = if nat_le low c && nat_le c high then Some (worth + (c - low)) else None
 
 -- 0 to 9, A to F, a to f, by their codes
 abbrev pub digit_of : ℕ → Option ℕ
-digit_of c =
-    if nat_le 48 c && nat_le c 57 then Some (c - 48) else (if nat_le 65 c && nat_le c 70 then Some (c - 65 + 10) else (if nat_le 97 c && nat_le c 102 then Some (c - 97 + 10) else None))
+digit_of c = option_or (digit_among 48 57 0 c) (option_or (digit_among 65 70 10 c) (digit_among 97 102 10 c))
 
 abbrev pub two_digits : Option ℕ → Option ℕ → Option ℕ
 two_digits (Some h) (Some l) = Some (h * 16 + l)
@@ -12,4 +16,5 @@ two_digits (Some h) None = None
 two_digits None l = None
 
 abbrev pub byte_of : List ℕ → Option ℕ
-byte_of word = if length word == 2 then two_digits (digit_of (slice_index word 0)) (digit_of (slice_index word 1)) else None
+byte_of (high ∷ low ∷ []) = two_digits (digit_of high) (digit_of low)
+byte_of word = None

@@ -10,33 +10,66 @@ use std::io;
 use std::io::Read;
 use std::time::{Clock, Duration};
 
-/// So much of what is told is kept.
+/// So much of what is printed is kept, and of what is told.
 pub const KEPT: usize = 1024;
 
-/// A program that was called with words, and what it told on the standard error or printed.
+/// A text, of which the first bytes are kept.
+#[derive(Drop)]
+struct Kept(Cell<InlineText<KEPT>>);
+
+impl Kept {
+    fn new() -> Kept {
+        Kept(Cell::new(InlineText::new()))
+    }
+
+    fn add<D: Display + Drop>(&self, value: D, end: &str) {
+        let text = self.0.get().and(value, KEPT).and_str(end, KEPT);
+        self.0.set(text);
+    }
+}
+
+/// A program that was called with words, what it printed, and what it told on the standard error.
 #[derive(Drop)]
 pub struct Called<'a> {
     heap: Global,
     words: &'a [&'a str],
-    told: Cell<InlineText<KEPT>>,
+    // How often it can print.
+    prints: Cell<u32>,
+    printed: Kept,
+    told: Kept,
 }
 
 impl<'a> Called<'a> {
     pub fn new(heap: Global, words: &'a [&'a str]) -> Called<'a> {
+        Called::printing(heap, words, u32::MAX)
+    }
+
+    /// One that can print so often, and fails then.
+    pub fn printing(heap: Global, words: &'a [&'a str], prints: u32) -> Called<'a> {
         Called {
             heap,
             words,
-            told: Cell::new(InlineText::new()),
+            prints: Cell::new(prints),
+            printed: Kept::new(),
+            told: Kept::new(),
         }
     }
 
-    pub fn told(&self) -> InlineText<KEPT> {
-        self.told.get()
+    pub fn printed(&self) -> InlineText<KEPT> {
+        self.printed.0.get()
     }
 
-    fn tell<D: Display + Drop>(&self, value: D, end: &str) {
-        let told = self.told.get().and(value, KEPT).and_str(end, KEPT);
-        self.told.set(told);
+    pub fn told(&self) -> InlineText<KEPT> {
+        self.told.0.get()
+    }
+
+    fn add_printed<D: Display + Drop>(&self, value: D, end: &str) -> io::Result<()> {
+        let Some(prints) = self.prints.get().checked_sub(1) else {
+            return Err(io::Error::other("nothing more can be printed"));
+        };
+        self.prints.set(prints);
+        self.printed.add(value, end);
+        Ok(())
     }
 }
 
@@ -81,25 +114,23 @@ impl Env for Called<'_> {
 
 impl Eprint for Called<'_> {
     fn eprint<D: Display + Drop>(&self, value: D) -> io::Result<()> {
-        self.tell(value, "");
+        self.told.add(value, "");
         Ok(())
     }
 
     fn eprintln<D: Display + Drop>(&self, value: D) -> io::Result<()> {
-        self.tell(value, "\n");
+        self.told.add(value, "\n");
         Ok(())
     }
 }
 
 impl Print for Called<'_> {
     fn print<D: Display + Drop>(&self, value: D) -> io::Result<()> {
-        self.tell(value, "");
-        Ok(())
+        self.add_printed(value, "")
     }
 
     fn println<D: Display + Drop>(&self, value: D) -> io::Result<()> {
-        self.tell(value, "\n");
-        Ok(())
+        self.add_printed(value, "\n")
     }
 
     fn write_all(&self, _bytes: &[u8]) -> io::Result<()> {

@@ -1,5 +1,5 @@
-//! What the programs `r3` and `bench` do for words, bytes and scripts, tried with a runtime of our own. In a crate of
-//! its own, so that no library is proved twice.
+//! What the programs `r3`, `bench` and `explain` do for words, bytes and scripts, tried with a runtime of our own. In a
+//! crate of its own, so that no library is proved twice.
 
 #![tactic(auto)]
 
@@ -7,5 +7,7 @@
 mod bench;
 #[cfg(test)]
 mod called;
+#[cfg(test)]
+mod explain;
 #[cfg(test)]
 mod r3;

@@ -27,13 +27,17 @@ const NO_COUNT: &str = "r3: QUIET is a number from 1 to 4294967295\n";
 const TOO_MANY: &str = "r3: there is a word too many\n";
 
 // Words that are refused, and what is told of them in front of the usage.
-const REFUSED: [(&[&str], &str); 15] = [
+const REFUSED: [(&[&str], &str); 20] = [
     (&[], NO_HEAD),
     (&["moon"], NO_SUCH_HEAD),
     (&["Dome"], NO_SUCH_HEAD),
+    (&["domes"], NO_SUCH_HEAD),
+    (&["block "], NO_SUCH_HEAD),
     (&["moon", "0"], NO_SUCH_HEAD),
     (&["dome", "0"], NO_TICK),
     (&["dome", "60001"], NO_TICK),
+    (&["dome", "65556"], NO_TICK),
+    (&["dome", "4294967316"], NO_TICK),
     (&["dome", "+20"], NO_TICK),
     (&["dome", "-1"], NO_TICK),
     (&["dome", ""], NO_TICK),
@@ -41,6 +45,7 @@ const REFUSED: [(&[&str], &str); 15] = [
     (&["dome", "20", "0"], NO_COUNT),
     (&["dome", "20", "+1"], NO_COUNT),
     (&["dome", "20", "4294967296"], NO_COUNT),
+    (&["dome", "20", "4294967297"], NO_COUNT),
     (&["dome", "20", "1", "1"], TOO_MANY),
     (&["moon", "0", "0", "0"], TOO_MANY),
 ];
@@ -63,7 +68,8 @@ const DONE: &[u8] = &[0x90, 0x51, 0xff];
 
 const JAMMED: &[u8] = &[0x90, 0x61, 0x41, 0xff];
 
-// What the program told, its status, and whether the line got just these replies, one behind the other.
+// What the program told, its status, and whether the line got just these replies, one behind the other, and nothing was
+// printed.
 fn called<R: Read + Drop, C: Clock + Drop>(
     heap: Global,
     words: &[&str],
@@ -78,7 +84,8 @@ fn called<R: Read + Drop, C: Clock + Drop>(
     for reply in replies {
         wanted.write_all(reply)?;
     }
-    Ok((program.told(), status, line == wanted))
+    let is_so = line == wanted && program.printed().as_str().is_empty();
+    Ok((program.told(), status, is_so))
 }
 
 #[test]
