@@ -38,18 +38,16 @@ fn explain_request(rt: &impl Print, body: &[u8]) -> io::Result<()> {
     }
 }
 
-// The bytes of a broadcast. Those that are known have the header 88.
+// The body of a broadcast.
 #[derive(Clone, Copy, Debug, PartialEq, Eq)]
 struct Broadcast<'a>(&'a [u8]);
 
 impl fmt::Display for Broadcast<'_> {
     fn fmt<W: fmt::Write>(&self, f: &mut fmt::Formatter<W>) -> fmt::Result {
         match self.0 {
-            [0x88, 0x30, next @ 1..=7, 0xff] => {
-                write!(f, "address set: the next camera is {next}")
-            }
-            [0x88, 0x30, 0x08, 0xff] => write!(f, "address set: every camera has its address"),
-            [0x88, 0x01, 0x00, 0x01, 0xff] => write!(f, "clear, for every camera"),
+            [0x30, next @ 1..=7] => write!(f, "address set: the next camera is {next}"),
+            [0x30, 0x08] => write!(f, "address set: every camera has its address"),
+            [0x01, 0x00, 0x01] => write!(f, "clear, for every camera"),
             _ => write!(f, "another broadcast"),
         }
     }
@@ -103,12 +101,10 @@ impl fmt::Display for Replied<'_> {
 /// A whole packet in words, by its header: bits 6 to 4 are the sender, bit 3 marks broadcast, bits
 /// 2 to 0 are the receiver.
 pub fn explain_packet(rt: &impl Print, packet: &Packet) -> io::Result<()> {
-    let header = packet.header();
-    let is_broadcast = header / 8 % 2 == 1;
-    match (header / 16 % 8, is_broadcast) {
-        (0, true) => rt.println(Broadcast(packet.bytes())),
-        (0, false) => explain_request(rt, packet.body()),
-        (sender, true) => println!(rt; "from camera {sender}: {}", Broadcast(packet.bytes())),
-        (sender, false) => println!(rt; "from camera {sender}: {}", Replied(packet.body())),
+    let body = packet.body();
+    match packet.header() {
+        0x88 => rt.println(Broadcast(body)),
+        0x80..=0x8f => explain_request(rt, body),
+        header => println!(rt; "from camera {}: {}", header / 16 % 8, Replied(body)),
     }
 }
