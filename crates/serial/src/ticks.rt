@@ -1,6 +1,6 @@
 //! The ticks that the clock owes. A tick has a length, and what is left of one at a read stays owed to the next.
 
-ghost use Rattle.std.specs.Prelude.{◌≡◌, cond, Some, None};
+ghost use Rattle.std.specs.Prelude.{◌≡◌, if◌then◌else◌, Some, None};
 ghost use Rattle.serial.specs.Lengths.{is_length};
 ghost use Rattle.serial.specs.Ticks.{owed, paid_at};
 
@@ -31,7 +31,7 @@ impl TickLength {
 
     /// So many milliseconds, if that is a length.
     pub fn new(millis: u32) -> Option<TickLength>
-        ensures { result ≡ cond (is_length millis) (Some millis) None }
+        ensures { result ≡ (if is_length millis then Some millis else None) }
     {
         if millis >= 1 && millis <= 60_000 {
             Some(TickLength { millis })
