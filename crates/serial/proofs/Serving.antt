@@ -8,7 +8,7 @@ use Rattle.serial.specs.declared.port.Port.{Port}
 use Rattle.serial.specs.declared.silence.Finish.{Finish}
 use Rattle.serial.specs.Outside.{Operation, Operating, Operated, tells, Known, Means}
 use Rattle.serial.specs.Outside as outside
-use Rattle.serial.specs.Turns.{Answered, Failed, Counted, calls_due, finish_of, time_then, Unbroken, Moment, Turn, TurnMade, TurnsMade, none, then, TurnFailed, at_reply, Served, finished, failed, started}
+use Rattle.serial.specs.Turns.{Answered, Failed, Counted, calls_due, finish_of, time_then, Unbroken, Moment, Turn, TurnMade, TurnsMade, none, then, TurnFailed, at_reply, Served, finished, failed, at_start}
 use Rattle.serial.proofs.Reading.{no_more_by}
 
 -- a box that was started as p with x outside, and has come to m by whole turns
@@ -17,7 +17,7 @@ pub record Goes {O : Type 0} (op : Operating O) {H : Type 0} {h : HeadGhosts H} 
   pub first : O
   pub opened : op x (tells (Ok start)) first
   pub turns : List Turn
-  pub made : TurnsMade op start (started p first) turns m
+  pub made : TurnsMade op start (at_start p first) turns m
 
 -- An answer, where it is handed on by `?`.
 
@@ -53,7 +53,7 @@ module _ {O : Type 0} {op : Operating O} {H : Type 0} {h : HeadGhosts H} {l : Lo
   })
 
 module _ {O : Type 0} {op : Operating O} {H : Type 0} {h : HeadGhosts H} {l : LookGhosts H} {start : Instant} {p : Port H h l} {x : O} where
-  pub begins : {y : O} → op x (tells (Ok start)) y → Goes op start p x (started p y)
+  pub begins : {y : O} → op x (tells (Ok start)) y → Goes op start p x (at_start p y)
   begins o = record { first = _; opened = o; turns = []; made = none }
 
   pub goes_on : {m m' : Moment O H h l} {t : Turn} {f : Option Finish} → Goes op start p x m → TurnMade op start m t f m' → f ≡ None → Goes op start p x m'

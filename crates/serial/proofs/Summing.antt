@@ -1,7 +1,7 @@
 -- What serving comes to, summed over its turns.
-use Rattle.std.proofs.Common.{◌≡◌, ℕ, ◌+◌, ◌<◌, ◌≤◌, max, take, drop, List, [], ◌∷◌, ◌++◌, length, Option, Some, None, Ok, Err, Result, sym, ap, ◌∙◌, refl, subst, append_assoc, append-nil, arith}
+use Rattle.std.proofs.Common.{◌≡◌, ℕ, take, drop, List, [], ◌∷◌, ◌++◌, Option, Some, None, Ok, Err, Result, sym, ap, ◌∙◌, refl, subst, append_assoc, append-nil, arith}
 use Rattle.std.proofs.lemmas.List.{take-append-drop, length-drop}
-use Rattle.std.specs.Io.KnownBytes.{Appends, Consumes}
+use Rattle.std.specs.Io.KnownBytes.{Consumes}
 use Rattle.std.specs.declared.io.Error.{Error}
 use Rattle.std.specs.declared.time.Instant.{Instant}
 use Rattle.end.specs.declared.call.Call.{Call}
@@ -14,9 +14,9 @@ use Rattle.head.specs.declared.traits.Look.{Ghosts as LookGhosts}
 use Rattle.serial.specs.declared.port.Port.{Port}
 use Rattle.serial.specs.declared.silence.Finish.{Finish}
 use Rattle.serial.specs.declared.ticks.Ticks.{Ticks}
-use Rattle.serial.specs.Outside.{Operation, Operating, Operated, none, then, reads, writes, tells, Known, Moved, Means}
-use Rattle.serial.specs.Sums.{TurnAt, time_after, ticks_after, calls_over, bytes_over, Rising, newest_sent, Sum, IsWhole, Sums}
-use Rattle.serial.specs.Turns.{HadRoom, Moment, Turn, Unbroken, Begun, TurnMade, TurnsMade, ReplyLost, Served, started, calls_in, reply, replies, time_then}
+use Rattle.serial.specs.Outside.{Operation, Operating, Operated, none, then, writes, Known, Moved, Means}
+use Rattle.serial.specs.Sums.{TurnAt, time_after, ticks_after, calls_over, bytes_over, Rising, Sum, IsWhole, Sums}
+use Rattle.serial.specs.Turns.{HadRoom, Moment, Turn, Unbroken, Begun, TurnMade, TurnsMade, ReplyLost, Served, at_start, calls_in, reply, replies, time_then}
 use Rattle.serial.specs.Turns as turns
 use Rattle.serial.specs.Ticks.{owed, paid_at}
 use Rattle.serial.proofs.Moving.{appends_none, appends_both, consumes_none}
@@ -87,7 +87,7 @@ module _ {O : Type 0} (op : Operating O) (known : O → Known) (means : (x : O) 
       pub rising : Rising ts
       pub moved : Moved (bytes_over ts) (sent_by records) k (known m.outside)
 
-    over_none : (b : Port H h l) (x : O) → Over b (known x) [] (started b x)
+    over_none : (b : Port H h l) (x : O) → Over b (known x) [] (at_start b x)
     over_none b x = record {
       records = [];
       made = calls.CallsOn.none;
@@ -124,7 +124,7 @@ module _ {O : Type 0} (op : Operating O) (known : O → Known) (means : (x : O) 
         }
 
     over : {start : Instant} {b : Port H h l} {x : O} {ts : List Turn} {m : Moment O H h l} →
-        TurnsMade op start (started b x) ts m → (us : List TurnAt) × Over b (known x) us m
+        TurnsMade op start (at_start b x) ts m → (us : List TurnAt) × Over b (known x) us m
     over {b = b} {x = x} turns.none = ([], over_none b x)
     over (turns.then t p q) = let o = over p in (_, over_more o.1 q)
 

@@ -18,8 +18,6 @@ use Rattle.head.specs.declared.traits.Head.{Ghosts as HeadGhosts}
 use Rattle.head.specs.declared.traits.Look.{Ghosts as LookGhosts}
 use Rattle.serial.specs.declared.port.Port.{Port}
 use Rattle.serial.specs.declared.silence.Finish.{Finish}
-use Rattle.serial.specs.declared.silence.Silence.{Silence}
-use Rattle.serial.specs.declared.ticks.Ticks.{Ticks}
 use Rattle.serial.specs.Outside.{Operation, reads, writes, tells, Operating, Operated}
 use Rattle.serial.specs.Silences.{heard, finish}
 use Rattle.serial.specs.Ticks.{owed, paid_at}
@@ -130,8 +128,8 @@ pub record Moment (O H : Type 0) (h : HeadGhosts H) (l : LookGhosts H) : Type 0 
   pub outside : O
 
 -- when serving starts, time is 0
-abbrev pub started : {O H : Type 0} {h : HeadGhosts H} {l : LookGhosts H} → Port H h l → O → Moment O H h l
-started p x = record { port = p; time = 0; outside = x }
+abbrev pub at_start : {O H : Type 0} {h : HeadGhosts H} {l : LookGhosts H} → Port H h l → O → Moment O H h l
+at_start p x = record { port = p; time = 0; outside = x }
 
 module _ {O : Type 0} (op : Operating O) {H : Type 0} {h : HeadGhosts H} {l : LookGhosts H} (start : Instant) where
   -- a whole turn from m to m', with what ends serving then, if anything does
@@ -169,6 +167,6 @@ pub data Served {O : Type 0} (op : Operating O) {H : Type 0} {h : HeadGhosts H} 
     Result Finish Error → Port H h l → O → Type 0 where
   unstarted : {e : Error} {y : O} → op x (tells (Err e)) y → Served op p x (Err e) p y
   finished : (start : Instant) {z : O} {ts : List Turn} {m m' : Moment O H h l} (t : Turn) {f : Finish} → op x (tells (Ok start)) z →
-      TurnsMade op start (started p z) ts m → TurnMade op start m t (Some f) m' → Served op p x (Ok f) m'.port m'.outside
+      TurnsMade op start (at_start p z) ts m → TurnMade op start m t (Some f) m' → Served op p x (Ok f) m'.port m'.outside
   failed : (start : Instant) {z : O} {ts : List Turn} {m m' : Moment O H h l} {e : Error} → op x (tells (Ok start)) z →
-      TurnsMade op start (started p z) ts m → TurnFailed op start m e m' → Served op p x (Err e) m'.port m'.outside
+      TurnsMade op start (at_start p z) ts m → TurnFailed op start m e m' → Served op p x (Err e) m'.port m'.outside

@@ -3,11 +3,10 @@
 ghost use Rattle.std.specs.Prelude.{◌≡◌, ◌-◌, ◌/◌, ◌^◌, ◌<◌, Ok, Err, min, false, [], ◌∷◌, length, map, replicate, OnOk, IfOk, IfErr, IsTrue, ◌↔◌};
 ghost use Rattle.std.specs.Io.{ReadsAtMost};
 ghost use Rattle.std.specs.IoError.{error_kind};
-ghost use Rattle.std.specs.Time.{instant_nanos};
 ghost use Rattle.end.specs.declared.call.Call.TheVariants.{Byte, Tick};
 ghost use Rattle.serial.specs.Outside.{Operated, bytes_read, writes};
 ghost use Rattle.serial.specs.Sums.{Sums};
-ghost use Rattle.serial.specs.Turns.{Answered, Counted, Failed, Fresh, Served, Unbroken, calls_due, end_of, finish_of, reply as reply_of};
+ghost use Rattle.serial.specs.Turns.{Answered, Counted, Failed, Fresh, Served, Unbroken, calls_due, end_of, finish_of, reply as reply_of, time_then};
 
 use crate::outside::Outside;
 use crate::silence::{Finish, Silence};
@@ -109,11 +108,12 @@ fn read<O: Outside>(outside: &mut O, buffer: &mut [u8; READ]) -> io::Result<usiz
     }
 }
 
-// Whole milliseconds from the start.
-fn milliseconds(start: Instant, now: Instant) -> u64
-    ensures { result ≡ min ((instant_nanos now - instant_nanos start) / 1_000_000) (2 ^ 64 - 1) }
+// The time then, in whole milliseconds from the start; where the clock went back, it stands.
+fn time_at(start: Instant, before: u64, now: Instant) -> u64
+    ensures { result ≡ time_then start before now }
 {
-    u64::try_from(now.duration_since(start).as_millis()).unwrap_or(u64::MAX)
+    let millis = u64::try_from(now.duration_since(start).as_millis()).unwrap_or(u64::MAX);
+    millis.max(before)
 }
 
 /// An end at a line, with the ticks that the clock owes it and the silence of the line.
@@ -177,7 +177,7 @@ impl<H: Head> Port<H> {
         let mut buffer = [0; READ];
         loop {
             let count = read(outside, &mut buffer)?;
-            time = time.max(milliseconds(start, outside.now()?));
+            time = time_at(start, time, outside.now()?);
             if let Some(finish) = self.turn(&buffer[..count], time, outside)? {
                 return Ok(finish);
             }

@@ -1,4 +1,4 @@
-use Rattle.std.proofs.Common.{sym, subst, Result}
+use Rattle.std.proofs.Common.{sym, subst}
 use Rattle.serial.specs.Program.{ProgramRan, unserved, served}
 use Rattle.serial.proofs.Serving.{err_told}
 use Rattle.serial.proofs.program.run.Goals as goal

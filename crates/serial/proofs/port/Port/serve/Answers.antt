@@ -1,5 +1,5 @@
-use Rattle.std.proofs.Common.{◌≡◌, arith, rules, refl}
-use Rattle.serial.specs.Turns.{Served, unstarted, at_read, at_clock, time_then}
+use Rattle.std.proofs.Common.{arith, refl}
+use Rattle.serial.specs.Turns.{Served, unstarted, at_read, at_clock}
 use Rattle.serial.proofs.Reading.{no_more_by}
 use Rattle.serial.proofs.Serving.{begins, err_told, turn_made, turn_lost, goes_on, ends, fails, no_more_then}
 use Rattle.serial.proofs.Summing.{sums}
@@ -30,22 +30,19 @@ returns-in_err-now-clause-served g c =
 pub returns-in_err-finish-clause-served : goal.returns-in_err-finish-clause-served
 returns-in_err-finish-clause-served g c =
     let e = c.turn.ensures in
-    let time : c.max-time.result ≡ time_then c.in_ok-start.start c.loop-count.time c.in_ok-now.field-0 = search rules in
     err_told (λ r. Served g.O.Outside.operated c.args.self.now c.args.outside.now r c.turn.new.self c.turn.new.outside)
     c.from_residual-in_err-finish.result c.from_residual-in_err-finish.ensures.1
-    (fails c.loop-count.invariant (turn_lost c.in_ok-count.ensures.unbroken c.in_ok-now.ensures time c.in_err-finish.ensures.failed e.counted))
+    (fails c.loop-count.invariant (turn_lost c.in_ok-count.ensures.unbroken c.in_ok-now.ensures c.time_at-time.ensures c.in_err-finish.ensures.failed e.counted))
 
 pub returns-in-Some-clause-served : goal.returns-in-Some-clause-served
 returns-in-Some-clause-served g c =
     let e = c.in_ok-finish.ensures in
-    let time : c.max-time.result ≡ time_then c.in_ok-start.start c.loop-count.time c.in_ok-now.field-0 = search rules in
-    ends c.loop-count.invariant (turn_made c.in_ok-count.ensures.unbroken c.in_ok-now.ensures time e.answered e.counted e.told) c.in-Some.is
+    ends c.loop-count.invariant (turn_made c.in_ok-count.ensures.unbroken c.in_ok-now.ensures c.time_at-time.ensures e.answered e.counted e.told) c.in-Some.is
 
 pub loop-count-preserved : goal.loop-count-preserved
 loop-count-preserved g c =
     let e = c.in_ok-finish.ensures in
-    let time : c.max-time.result ≡ time_then c.in_ok-start.start c.loop-count.time c.in_ok-now.field-0 = search rules in
-    goes_on c.loop-count.invariant (turn_made c.in_ok-count.ensures.unbroken c.in_ok-now.ensures time e.answered e.counted e.told) c.in_default.is
+    goes_on c.loop-count.invariant (turn_made c.in_ok-count.ensures.unbroken c.in_ok-now.ensures c.time_at-time.ensures e.answered e.counted e.told) c.in_default.is
 
 pub loop-count-smaller : goal.loop-count-smaller
 loop-count-smaller g c =
