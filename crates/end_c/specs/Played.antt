@@ -1,6 +1,6 @@
 -- Calls as numbers, played on an end just made of one of our heads.
 use Rattle.std.specs.Prelude.{◌≡◌, ℕ, Bool, true, false, ◌⊎◌, List, [], ◌∷◌, map}
-use Rattle.end.specs.Deeds.{Deed, nothing, clears, cancels, starts, displaces, ticks, other, both_idle}
+use Rattle.end.specs.Deeds.{Deed, nothing, clears, cancels, starts, displaces, ticks, other_socket, both_idle}
 use Rattle.end.specs.Law.{Law}
 use Rattle.end.specs.Records.{Record, book_of}
 use Rattle.end.specs.States.{State}
@@ -13,7 +13,7 @@ use Rattle.heads.specs.declared.any.HeadKind.{HeadKind}
 use Rattle.heads.specs.declared.any.HeadKind.TheVariants.{Block, Dome, StalledDome}
 use Rattle.heads.specs.declared.motion.Motion.{Motion}
 use Rattle.heads.specs.declared.motion.Motion.TheVariants.{AtOnce, Stepwise, Stalled}
-use Rattle.heads.specs.Exact.{Ran, ticks_of}
+use Rattle.heads.specs.Exact.{TickedExactly, ticks_of}
 use Rattle.end_c.specs.declared.asked.Asked.{Asked}
 use Rattle.end_c.specs.Asked.{asked_of, asked_in_full}
 use Rattle.end_c.specs.Calls.{calls_made}
@@ -49,8 +49,8 @@ Exactly g nothing m m' = Unit {0}
 Exactly g clears m m' = Unit {0}
 Exactly g (cancels y) m m' = Unit {0}
 Exactly g (starts y o) m m' = Takes g m y o m'
-Exactly g (displaces y o) m m' = (between : Meaning) × Dropped m (other y) between × Takes g between y o m'
-Exactly g (ticks e) m m' = Ran g m e m'
+Exactly g (displaces y o) m m' = (between : Meaning) × Dropped m (other_socket y) between × Takes g between y o m'
+Exactly g (ticks e) m m' = TickedExactly g m e m'
 
 -- a run over such a head, of which the law holds after each call; the newest record stands first
 pub data ExactRun (g : Motion) (m : Meaning) : List Record → State → Type 0 where
