@@ -100,10 +100,10 @@ fn log_tick<H: Head>(end: &mut End<H>, room: usize, log: &mut [u8], count: usize
 }
 
 // Which sockets are open: 1 or 0 for each.
-fn open_bytes(open: OpenSockets) -> [u8; 2]
-    ensures { result ≡ answer_logged (opens open.one open.two) }
+fn open_bytes(sockets: OpenSockets) -> [u8; 2]
+    ensures { result ≡ answer_logged (opens sockets.one sockets.two) }
 {
-    [u8::from(open.one), u8::from(open.two)]
+    [u8::from(sockets.one), u8::from(sockets.two)]
 }
 
 fn log_open<H: Head>(end: &End<H>, log: &mut [u8], count: usize) -> usize
@@ -113,8 +113,7 @@ fn log_open<H: Head>(end: &End<H>, log: &mut [u8], count: usize) -> usize
         (take (count + result) log.new) end.now }
     ensures untouched { drop (count + result) log.new ≡ drop (count + result) log.old }
 {
-    let open = end.open();
-    put(log, count, &open_bytes(open), &[])
+    put(log, count, &open_bytes(end.open()), &[])
 }
 
 // Makes a call, logs it behind the first `count` bytes, and tells how many more stand in the log then.

@@ -7,7 +7,7 @@ returns-clause-logged g c = record {
   made = _;
   call = record {
     call = refl;
-    step = c.open-open.ensures.step;
+    step = c.open.ensures.step;
     ranged = record { each = g.met.H.Look.ranged c.args.end.now.head };
     head = refl;
   };
