@@ -87,12 +87,12 @@ take-off
 fn an_error_of_printing_is_the_answer(rt: HostRuntime) -> Result<(), Fail> {
     // Fourteen lines, of which one has two answers.
     for prints in 0..15 {
-        let bench = Called::printing(rt.alloc(), &[], prints);
+        let bench = Called::failing(rt.alloc(), &[], prints);
         assert!(rt;
             play_script(&bench, EACH.as_bytes()).is_err(),
             "at {prints}"
         );
     }
-    play_script(&Called::printing(rt.alloc(), &[], 15), EACH.as_bytes())?;
+    play_script(&Called::failing(rt.alloc(), &[], 15), EACH.as_bytes())?;
     Ok(())
 }

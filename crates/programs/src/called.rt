@@ -33,7 +33,7 @@ impl Kept {
 pub struct Called<'a> {
     heap: Global,
     words: &'a [&'a str],
-    // How often it can print.
+    // How often it prints before one print fails.
     prints: Cell<u32>,
     printed: Kept,
     told: Kept,
@@ -41,11 +41,11 @@ pub struct Called<'a> {
 
 impl<'a> Called<'a> {
     pub fn new(heap: Global, words: &'a [&'a str]) -> Called<'a> {
-        Called::printing(heap, words, u32::MAX)
+        Called::failing(heap, words, u32::MAX)
     }
 
-    /// One that can print so often, and fails then.
-    pub fn printing(heap: Global, words: &'a [&'a str], prints: u32) -> Called<'a> {
+    /// One of which the print behind so many fails, and no other.
+    pub fn failing(heap: Global, words: &'a [&'a str], prints: u32) -> Called<'a> {
         Called {
             heap,
             words,
@@ -64,10 +64,11 @@ impl<'a> Called<'a> {
     }
 
     fn add_printed<D: Display + Drop>(&self, value: D, end: &str) -> io::Result<()> {
-        let Some(prints) = self.prints.get().checked_sub(1) else {
-            return Err(io::Error::other("nothing more can be printed"));
-        };
-        self.prints.set(prints);
+        let prints = self.prints.get();
+        self.prints.set(prints.wrapping_sub(1));
+        if prints == 0 {
+            return Err(io::Error::other("this print fails"));
+        }
         self.printed.add(value, end);
         Ok(())
     }

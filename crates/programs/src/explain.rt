@@ -34,12 +34,12 @@ FF
 fn an_error_of_printing_is_the_answer(rt: HostRuntime) -> Result<(), Fail> {
     // Ten lines: the bytes and what they are, but where they are none.
     for prints in 0..19 {
-        let explain = Called::printing(rt.alloc(), &[], prints);
+        let explain = Called::failing(rt.alloc(), &[], prints);
         assert!(rt;
             explain_capture(&explain, EACH.as_bytes()).is_err(),
             "at {prints}"
         );
     }
-    explain_capture(&Called::printing(rt.alloc(), &[], 19), EACH.as_bytes())?;
+    explain_capture(&Called::failing(rt.alloc(), &[], 19), EACH.as_bytes())?;
     Ok(())
 }
