@@ -2,17 +2,17 @@
 
 ghost use Rattle.std.specs.Prelude.{◌≡◌, ◌+◌, ◌≤◌, List, ◌++◌, length, map, take, drop};
 ghost use Rattle.end.specs.declared.call.Call.TheVariants.{Byte, Tick, Open as Opens};
-ghost use Rattle.end.specs.Faults.{answered, count_told};
+ghost use Rattle.end.specs.Faults.{answered, count_told, opens};
 ghost use Rattle.end.specs.Records.{Record};
 ghost use Rattle.heads.specs.declared.any.HeadKind.TheVariants.{Block as Blocks};
 ghost use Rattle.end_c.specs.Asked.{asked_of, dome_kind, kind_numbered};
 ghost use Rattle.end_c.specs.Calls.{AskedRun, CallLogged};
-ghost use Rattle.end_c.specs.Logs.{answer_logged, appended, bit as bit_of, log_of};
+ghost use Rattle.end_c.specs.Logs.{answer_logged, appended, log_of};
 ghost use Rattle.end_c.specs.Played.{IsLog};
 
 use crate::asked::Asked;
 use crate::kinds::kind;
-use end::{Call, End, Fault, ROOM, bytes_sent};
+use end::{Call, End, Fault, OpenSockets, ROOM, bytes_sent};
 use fault::FaultCode;
 use head::Head;
 use heads::{Block, Dome, HeadKind};
@@ -99,10 +99,11 @@ fn log_tick<H: Head>(end: &mut End<H>, room: usize, log: &mut [u8], count: usize
     )
 }
 
-fn bit(is_open: bool) -> u8
-    ensures { result ≡ bit_of is_open }
+// Which sockets are open: 1 or 0 for each.
+fn open_bytes(sockets: OpenSockets) -> [u8; 2]
+    ensures { result ≡ answer_logged (opens sockets.one sockets.two) }
 {
-    u8::from(is_open)
+    [u8::from(sockets.one), u8::from(sockets.two)]
 }
 
 fn log_open<H: Head>(end: &End<H>, log: &mut [u8], count: usize) -> usize
@@ -112,8 +113,7 @@ fn log_open<H: Head>(end: &End<H>, log: &mut [u8], count: usize) -> usize
         (take (count + result) log.new) end.now }
     ensures untouched { drop (count + result) log.new ≡ drop (count + result) log.old }
 {
-    let open = end.open();
-    put(log, count, &[bit(open.one), bit(open.two)], &[])
+    put(log, count, &open_bytes(end.open()), &[])
 }
 
 // Makes a call, logs it behind the first `count` bytes, and tells how many more stand in the log then.
