@@ -1,23 +1,22 @@
 -- Calls answered in turn, put together.
-use Rattle.std.proofs.Common.{◌≡◌, ℕ, ◌+◌, ◌-◌, ◌<◌, map, take, drop, replicate, get_or, arith, List, [], ◌∷◌, ◌++◌, length, Ok, Err, Result, sym, ap, ◌∙◌, refl, subst, append_assoc, append-nil}
-use Rattle.std.specs.Result.{OnOk, IfErr, IsErrAnd}
+use Rattle.std.proofs.Common.{◌≡◌, ℕ, true, ◌+◌, ◌-◌, ◌<◌, map, take, drop, replicate, get_or, arith, List, [], ◌∷◌, ◌++◌, length, Ok, Err, Result, sym, ap, ◌∙◌, refl, subst, append_assoc, append-nil}
+use Rattle.std.specs.Result.{IfErr, IsErrAnd}
 use Rattle.std.specs.declared.io.Error.{Error}
 use Rattle.std.proofs.lemmas.List.{take_more, take-append-drop, map-append, replicate-append-replicate}
 use Rattle.end.specs.declared.call.Call.{Call}
 use Rattle.end.specs.declared.call.Call.TheVariants.{Byte, Tick}
 use Rattle.end.specs.declared.end.End.{End}
-use Rattle.end.specs.Ends.{CallsOn, HeadOver}
+use Rattle.end.specs.Ends.{CallsOn}
 use Rattle.end.specs.Ends as ends
-use Rattle.end.specs.Faults.{Answer}
 use Rattle.end.specs.Records.{Record, calls_of, sent_by, room_for, record_of}
-use Rattle.end.specs.States.{InRange, state}
-use Rattle.end.specs.Steps.{Step, deed_of}
 use Rattle.end.proofs.Runs.{behind_on, calls_on_then}
-use Rattle.head.specs.declared.outcome.Endings.{Endings}
+use Rattle.head.specs.declared.setting.Setting.{Setting}
+use Rattle.head.specs.Settings.{in_range}
 use Rattle.head.specs.declared.traits.Head.{Ghosts as HeadGhosts}
 use Rattle.head.specs.declared.traits.Look.{Ghosts as LookGhosts}
 use Rattle.serial.specs.Outside.{Operation, Operating, Operated, none, then, writes}
-use Rattle.serial.specs.Turns.{HadRoom, reply, replies, Answered, Failed}
+use Rattle.serial.specs.Turns.{HadRoom, reply, replies, Answered, CallReplied, Failed, Wrote}
+use Rattle.serial.specs.Turns as turns
 
 -- Operations.
 
@@ -29,44 +28,38 @@ pub operated_as : {O : Type 0} {op : Operating O} {os ps : List Operation} {x y 
 operated_as {op = op} {x = x} {y = y} e p = subst (λ (l : List Operation). Operated op x l y) e p
 
 -- a call that sent something, or nothing
-wrote : {O : Type 0} {op : Operating O} {x y : O} (sent : List ℕ) → 0 < length sent → op x (writes sent (Ok tt)) y → Operated op x (reply sent (Ok tt)) y
-wrote [] some p = absurd (omega (arith, some))
-wrote (b ∷ bs) some p = then (writes (b ∷ bs) (Ok tt)) p none
+pub wrote : {O : Type 0} {op : Operating O} {sent : List ℕ} {x y : O} {w : Result (Unit {0}) Error} → 0 < length sent → op x (writes sent w) y → Wrote op sent x w y
+wrote {sent = []} some p = absurd (omega (arith, some))
+wrote {sent = b ∷ bs} {w = Ok u} some p = turns.Wrote.all (then (writes (b ∷ bs) (Ok tt)) p none)
+wrote {sent = b ∷ bs} {w = Err e} some p = turns.Wrote.lost some (then (writes (b ∷ bs) (Err e)) p none)
 
-pub replied : {O : Type 0} (op : Operating O) {x y : O} (sent : List ℕ) (r : Result (Unit {0}) Error) → 0 < length sent → op x (writes sent r) y →
-    OnOk r (Operated op x (reply sent (Ok tt)) y)
-replied op sent (Ok u) some p = wrote sent some p
-replied op sent (Err e) some p = tt
+pub unwritten : {O : Type 0} {op : Operating O} {sent : List ℕ} {x : O} → length sent ≡ 0 → Wrote op sent x (Ok tt) x
+unwritten {sent = []} e = turns.Wrote.all none
+unwritten {sent = b ∷ bs} e = absurd (omega (arith, e))
 
-pub lost : {O : Type 0} (op : Operating O) {x y : O} (sent : List ℕ) (r : Result (Unit {0}) Error) → 0 < length sent → op x (writes sent r) y →
-    IfErr r (λ e. (0 < length sent) × Operated op x (writes sent (Err e) ∷ []) y)
-lost op sent (Ok u) some p = tt
-lost op sent (Err e) some p = (some, then (writes sent (Err e)) p none)
+all_written : {O : Type 0} {op : Operating O} {sent : List ℕ} {x y : O} → Wrote op sent x (Ok tt) y → Operated op x (reply sent (Ok tt)) y
+all_written (turns.Wrote.all p) = p
 
-pub unreplied : {O : Type 0} {op : Operating O} {x : O} (sent : List ℕ) → length sent ≡ 0 → Operated op x (reply sent (Ok tt)) x
-unreplied [] e = none
-unreplied (b ∷ bs) e = absurd (omega (arith, e))
+some_lost : {O : Type 0} {op : Operating O} {sent : List ℕ} {x y : O} {e : Error} → Wrote op sent x (Err e) y →
+    (0 < length sent) × Operated op x (writes sent (Err e) ∷ []) y
+some_lost (turns.Wrote.lost some p) = (some, p)
 
--- One call.
+-- One call. The law of a head keeps its settings in range.
 
-module _ {O : Type 0} {op : Operating O} {H : Type 0} {h : HeadGhosts H} {l : LookGhosts H} where
-  pub one_answered : {c : Call} {end end' : End H h l} {x y : O} (a : Answer) (sent : List ℕ) (e : Endings) →
-      Step (state end) (record_of c (room_for c 16) a sent e) (state end') → InRange (state end') →
-      HeadOver (deed_of (state end) (record_of c (room_for c 16) a sent e)) end end' → Operated op x (reply sent (Ok tt)) y →
-      Answered op (c ∷ []) end x end' y
-  one_answered {c = c} a sent e step ranged head w =
-      let r = record_of c (room_for c 16) a sent e in
-      let made = ends.CallsOn.then r ends.CallsOn.none step ranged head in
-      record { records = r ∷ []; asked = refl; made = made; room = (refl, tt); law = behind_on made; written = w }
+module _ {O : Type 0} {op : Operating O} {H : Type 0} {h : HeadGhosts H} {l : LookGhosts H} (ranged : (a : H) (s : Setting) → in_range s (l.setting a s) ≡ true)
+    {c : Call} {end end' : End H h l} {x y : O} where
+  pub call_answered : CallReplied op c end x (Ok tt) end' y → Answered op (c ∷ []) end x end' y
+  call_answered p =
+      let r = record_of c (room_for c 16) p.answer p.sent p.endings in
+      let made = ends.CallsOn.then r ends.CallsOn.none p.step (record { each = ranged end'.head }) p.head in
+      record { records = r ∷ []; asked = refl; made = made; room = (refl, tt); law = behind_on made; written = all_written p.wrote }
 
-  pub one_failed : {c : Call} {end end' : End H h l} {x y : O} (a : Answer) (sent : List ℕ) (e : Endings) (why : Error) →
-      Step (state end) (record_of c (room_for c 16) a sent e) (state end') → InRange (state end') →
-      HeadOver (deed_of (state end) (record_of c (room_for c 16) a sent e)) end end' → 0 < length sent →
-      Operated op x (writes sent (Err why) ∷ []) y → Failed op (c ∷ []) why end x end' y
-  one_failed {c = c} a sent e why step ranged head some w =
-      let r = record_of c (room_for c 16) a sent e in
-      let made = ends.CallsOn.then r ends.CallsOn.none step ranged head in
-      record { last = r; before = []; left = []; asked = refl; made = made; room = (refl, tt); law = behind_on made; lost = some; written = w }
+  pub call_failed : {e : Error} → CallReplied op c end x (Err e) end' y → Failed op (c ∷ []) e end x end' y
+  call_failed p =
+      let r = record_of c (room_for c 16) p.answer p.sent p.endings in
+      let made = ends.CallsOn.then r ends.CallsOn.none p.step (record { each = ranged end'.head }) p.head in
+      let lost = some_lost p.wrote in
+      record { last = r; before = []; left = []; asked = refl; made = made; room = (refl, tt); law = behind_on made; lost = lost.0; written = lost.1 }
 
 -- One after the other.
 
@@ -173,14 +166,6 @@ ticks_parted k n lt =
     ∙ ap (λ (m : ℕ). replicate m Tick) all
 
 -- By cases of a result.
-
-pub at_ok : {T E : Type 0} (r : Result T E) {P Q : Type 0} → (P → Q) → OnOk r P → OnOk r Q
-at_ok (Ok x) f p = f p
-at_ok (Err e) f p = tt
-
-pub at_err : {T E : Type 0} (r : Result T E) {P Q : E → Type 0} → ((e : E) → P e → Q e) → IfErr r P → IfErr r Q
-at_err (Ok x) f p = tt
-at_err (Err e) f p = f e p
 
 -- an error that is handed on
 pub handed_on : {T E : Type 0} (r : Result T E) {e : E} (P : E → Type 0) → IsErrAnd r (λ y. y ≡ e) → P e → IfErr r P

@@ -1,5 +1,5 @@
 -- The box as a program: what comes of its words and of the line.
-use Rattle.std.specs.Prelude.{◌≡◌, ℕ, Bool, true, false, Ok, Err, Result}
+use Rattle.std.specs.Prelude.{◌≡◌, ℕ, Ok, Err, Result}
 use Rattle.std.specs.declared.io.Error.{Error}
 use Rattle.end.specs.Ends.{head_of}
 use Rattle.head.specs.declared.setting.Setting.{Setting}
@@ -7,8 +7,6 @@ use Rattle.head.specs.declared.traits.Head.{Ghosts as HeadGhosts}
 use Rattle.head.specs.declared.traits.Look.{Ghosts as LookGhosts}
 use Rattle.head.specs.Settings.{about}
 use Rattle.heads.specs.Any.{kind_of}
-use Rattle.heads.specs.declared.any.HeadKind.{HeadKind}
-use Rattle.heads.specs.declared.any.HeadKind.TheVariants.{Block, Dome, StalledDome}
 use Rattle.serial.specs.declared.arguments.Arguments.{Arguments}
 use Rattle.serial.specs.declared.port.Port.{Port}
 use Rattle.serial.specs.declared.program.AnyBox.{AnyBox}
@@ -18,11 +16,6 @@ use Rattle.serial.specs.declared.silence.Finish.{Finish}
 use Rattle.serial.specs.declared.silence.Finish.TheVariants.{Quiet, Gone}
 use Rattle.serial.specs.Outside.{Operating}
 use Rattle.serial.specs.Turns.{Fresh, Served, end_of}
-
-abbrev pub can_turn : HeadKind → Bool
-can_turn Block = false
-can_turn Dome = true
-can_turn StalledDome = true
 
 -- what the program answers, by what serving did
 abbrev pub answer : Result Finish Error → Result (Unit {0}) Failure
@@ -44,7 +37,6 @@ status_of (Err e) = 1
 pub record MadeFor {H : Type 0} {h : HeadGhosts H} {l : LookGhosts H} (a : Arguments) (p : Port H h l) : Type 0 where
   pub made_of : H
   pub settings : (s : Setting) → l.setting made_of s ≡ (about s).first
-  pub pantilt : l.pantilt made_of ≡ can_turn a.head
   pub fresh : Fresh made_of a.tick a.quiet p
 
 -- and that has the head of their kind

@@ -9,11 +9,13 @@ use Rattle.std.specs.declared.time.Instant.{Instant}
 use Rattle.end.specs.declared.call.Call.{Call}
 use Rattle.end.specs.declared.call.Call.TheVariants.{Byte, Tick}
 use Rattle.end.specs.declared.end.End.{End}
-use Rattle.end.specs.Ends.{CallsOn, TakesOver}
+use Rattle.end.specs.Ends.{CallsOn, HeadOver, TakesOver}
+use Rattle.end.specs.Faults.{Answer}
 use Rattle.end.specs.Law.{LawfulBehind}
-use Rattle.end.specs.Records.{Record, calls_of, room_for}
+use Rattle.end.specs.Records.{Record, calls_of, record_of, room_for}
 use Rattle.end.specs.States.{meaning, state}
-use Rattle.end.specs.Steps.{Made}
+use Rattle.end.specs.Steps.{Made, Step, deed_of}
+use Rattle.head.specs.declared.outcome.Endings.{Endings}
 use Rattle.head.specs.declared.traits.Head.{Ghosts as HeadGhosts}
 use Rattle.head.specs.declared.traits.Look.{Ghosts as LookGhosts}
 use Rattle.serial.specs.declared.port.Port.{Port}
@@ -36,12 +38,26 @@ abbrev pub reply : List ℕ → Result (Unit {0}) Error → List Operation
 reply [] r = []
 reply (b ∷ bs) r = writes (b ∷ bs) r ∷ []
 
+-- these bytes of a call were written, if there are any; or that failed
+pub data Wrote {O : Type 0} (op : Operating O) (sent : List ℕ) (x : O) : Result (Unit {0}) Error → O → Type 0 where
+  all : {y : O} → Operated op x (reply sent (Ok tt)) y → Wrote op sent x (Ok tt) y
+  lost : {e : Error} {y : O} → 0 < length sent → Operated op x (writes sent (Err e) ∷ []) y → Wrote op sent x (Err e) y
+
 -- what calls sent, each written by itself, the oldest first
 abbrev pub replies : List Record → List Operation
 replies [] = []
 replies (r ∷ h) = replies h ++ reply r.fed.sent (Ok tt)
 
 module _ {O : Type 0} (op : Operating O) {H : Type 0} {h : HeadGhosts H} {l : LookGhosts H} where
+  -- one call, with a buffer of 16 bytes: a step of the end, over which the head went through just the calls of its deed; and its reply
+  pub record CallReplied (c : Call) (end : End H h l) (x : O) (w : Result (Unit {0}) Error) (end' : End H h l) (y : O) : Type 0 where
+    pub answer : Answer
+    pub sent : List ℕ
+    pub endings : Endings
+    pub step : Step (state end) (record_of c (room_for c 16) answer sent endings) (state end')
+    pub head : HeadOver (deed_of (state end) (record_of c (room_for c 16) answer sent endings)) end end'
+    pub wrote : Wrote op sent x w y
+
   -- By just these calls, in turn, the end came from one value to another, and at each its head by just the calls of what was done;
   -- what each sent was written.
   pub record Answered (calls : List Call) (end : End H h l) (x : O) (end' : End H h l) (y : O) : Type 0 where

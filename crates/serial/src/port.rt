@@ -1,17 +1,18 @@
 //! A box at its line: what it does after each read, whatever the line brings and whenever it is read.
 
-ghost use Rattle.std.specs.Prelude.{◌≡◌, ◌-◌, ◌/◌, ◌^◌, ◌<◌, Ok, Err, min, false, [], ◌∷◌, length, map, replicate, OnOk, IfOk, IfErr, IsTrue, ◌↔◌};
+ghost use Rattle.std.specs.Prelude.{◌≡◌, ◌<◌, ◌≤◌, false, length, take, map, replicate, OnOk, IfOk, IfErr, IsTrue, ◌↔◌};
 ghost use Rattle.std.specs.Io.{ReadsAtMost};
 ghost use Rattle.std.specs.IoError.{error_kind};
+ghost use Rattle.end.specs.Faults.{count_told};
 ghost use Rattle.end.specs.declared.call.Call.TheVariants.{Byte, Tick};
-ghost use Rattle.serial.specs.Outside.{Operated, bytes_read, writes};
+ghost use Rattle.serial.specs.Outside.{bytes_read};
 ghost use Rattle.serial.specs.Sums.{Sums};
-ghost use Rattle.serial.specs.Turns.{Answered, Counted, Failed, Fresh, Served, Unbroken, calls_due, end_of, finish_of, reply as reply_of, time_then};
+ghost use Rattle.serial.specs.Turns.{Answered, CallReplied, Counted, Failed, Fresh, Served, Unbroken, Wrote, calls_due, end_of, finish_of, time_then};
 
 use crate::outside::Outside;
 use crate::silence::{Finish, Silence};
 use crate::ticks::{TickLength, Ticks};
-use end::{End, ROOM, bytes_sent};
+use end::{End, Fault, ROOM, bytes_sent};
 use head::{Head, Look};
 use std::io;
 use std::io::ErrorKind;
@@ -21,11 +22,16 @@ use std::time::Instant;
 pub const READ: usize = 256;
 
 // Writes what a call sent, if it sent anything.
-fn reply<O: Outside>(sent: &[u8], outside: &mut O) -> io::Result<()>
-    ensures written { OnOk result (Operated O.operated outside.old (reply_of sent.now (Ok tt)) outside.new) }
-    ensures lost { IfErr result (λ e. (0 < length sent.now)
-        × Operated O.operated outside.old (writes sent.now (Err e) ∷ []) outside.new) }
+#[tactic(auto, using(crate::proofs::Turned::wrote, crate::proofs::Turned::unwritten))]
+fn reply<O: Outside>(
+    told: Result<usize, Fault>,
+    buffer: &[u8; ROOM],
+    outside: &mut O,
+) -> io::Result<()>
+    requires { count_told told ≤ length buffer.now }
+    ensures { Wrote O.operated (take (count_told told) buffer.now) outside.old result outside.new }
 {
+    let sent = &buffer[..bytes_sent(told)];
     if sent.is_empty() {
         return Ok(());
     }
@@ -33,25 +39,19 @@ fn reply<O: Outside>(sent: &[u8], outside: &mut O) -> io::Result<()>
 }
 
 fn answer_byte<H: Head, O: Outside>(end: &mut End<H>, byte: u8, outside: &mut O) -> io::Result<()>
-    ensures answered { OnOk result (Answered O.operated (Byte byte ∷ [])
-        end.old outside.old end.new outside.new) }
-    ensures failed { IfErr result (λ e. Failed O.operated (Byte byte ∷ []) e
-        end.old outside.old end.new outside.new) }
+    ensures { CallReplied O.operated (Byte byte) end.old outside.old result end.new outside.new }
 {
     let mut buffer = [0; ROOM];
-    let count = bytes_sent(end.byte(byte, &mut buffer));
-    reply(&buffer[..count], outside)
+    let told = end.byte(byte, &mut buffer);
+    reply(told, &buffer, outside)
 }
 
 fn answer_tick<H: Head, O: Outside>(end: &mut End<H>, outside: &mut O) -> io::Result<()>
-    ensures answered { OnOk result (Answered O.operated (Tick ∷ [])
-        end.old outside.old end.new outside.new) }
-    ensures failed { IfErr result (λ e. Failed O.operated (Tick ∷ []) e
-        end.old outside.old end.new outside.new) }
+    ensures { CallReplied O.operated Tick end.old outside.old result end.new outside.new }
 {
     let mut buffer = [0; ROOM];
-    let count = bytes_sent(end.tick(&mut buffer));
-    reply(&buffer[..count], outside)
+    let told = end.tick(&mut buffer);
+    reply(told, &buffer, outside)
 }
 
 fn answer_bytes<H: Head, O: Outside>(

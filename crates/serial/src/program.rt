@@ -2,7 +2,10 @@
 
 ghost use Rattle.std.specs.Prelude.{◌≡◌, IfErr};
 ghost use Rattle.std.specs.Process.{exit_status};
-ghost use Rattle.serial.specs.Program.{BoxFor, OfWords, ProgramRan, Told, answer as answered};
+ghost use Rattle.end.specs.Ends.{head_of};
+ghost use Rattle.heads.specs.Any.{kind_of};
+ghost use Rattle.serial.specs.Program.{MadeFor, OfWords, ProgramRan, Told, answer as answered};
+ghost use Rattle.serial.specs.Turns.{end_of};
 
 use crate::arguments::{Arguments, ArgumentsError};
 use crate::outside::Outside;
@@ -57,7 +60,8 @@ struct AnyBox {
 
 // The box that they ask for.
 fn box_for(arguments: Arguments) -> AnyBox
-    ensures { BoxFor arguments result }
+    ensures made { MadeFor arguments result.port }
+    ensures kind { kind_of (head_of (end_of result.port)) ≡ arguments.head }
 {
     let head = AnyHead::new(arguments.head);
     AnyBox {

@@ -11,4 +11,4 @@ returns-in_err-arguments g c =
 pub returns : goal.returns
 returns g c =
     subst (λ (r : _). ProgramRan g.O.Outside.operated c.args.outside.now r c.serve.new.outside) (sym c.answer.ensures)
-    (served c.in_ok-arguments.arguments {b' = record { port = c.serve.new.self }} c.box_for.ensures c.serve.ensures.served)
+    (served c.in_ok-arguments.arguments {b' = record { port = c.serve.new.self }} (record { made = c.box_for.ensures.made; kind = c.box_for.ensures.kind }) c.serve.ensures.served)
