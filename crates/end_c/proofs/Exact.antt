@@ -29,7 +29,8 @@ use Rattle.end_c.specs.declared.asked.Asked.{Asked}
 use Rattle.heads.specs.Heads.{motion_of}
 use Rattle.end_c.specs.Asked.{dome_kind}
 use Rattle.end_c.specs.Calls.{AskedRun}
-use Rattle.end_c.specs.Played.{Takes, Exactly, ExactRun, made, then, NewHead, OurRun, moves_as, pans}
+use Rattle.heads.specs.Any.{can_turn}
+use Rattle.end_c.specs.Played.{Takes, Exactly, ExactRun, made, then, NewHead, OurRun, moves_as}
 
 exactly_as : (g : Motion) (d : Deed) {m n m' n' : Meaning} → m' ≡ m → n' ≡ n → Exactly g d m' n' → Exactly g d m n
 exactly_as g d {m = m} {n' = n'} e f p = subst (λ (z : Meaning). Exactly g d m z) f (subst (λ (z : Meaning). Exactly g d z n') e p)
@@ -70,7 +71,7 @@ module _ {G : Type 0} {g : GearGhosts G} {h : HeadGhosts (Geared G g)} {l : Look
       (then r p.0 step (exactly_as _ (deed_of (state x') r) (means _) (means _) same) law, q.1 ∙ p.1)
 
   pub our_run : (k : HeadKind) (given : Geared G g) {asked : List Asked} {run : List Record} {x' : End (Geared G g) h l} →
-      g.motion (gear_of given) ≡ moves_as k → g.PAN_TILT ≡ pans k → ((s : Setting) → (geared_meaning given).setting s ≡ (about s).first) →
+      g.motion (gear_of given) ≡ moves_as k → g.PAN_TILT ≡ can_turn k → ((s : Setting) → (geared_meaning given).setting s ≡ (about s).first) →
       (geared_meaning given).slots ≡ both_idle → AskedRun given asked run x' → OurRun k asked run
   our_run k given {run = run} {x' = x'} moves pantilt settings slots p =
       let m = meaning l h.slots given in
@@ -90,6 +91,6 @@ pub dome_moves : (stalled : Bool) → motion_of stalled ≡ moves_as (dome_kind 
 dome_moves true = refl
 dome_moves false = refl
 
-pub dome_pans : (stalled : Bool) → true ≡ pans (dome_kind stalled)
-dome_pans true = refl
-dome_pans false = refl
+pub dome_turns : (stalled : Bool) → true ≡ can_turn (dome_kind stalled)
+dome_turns true = refl
+dome_turns false = refl

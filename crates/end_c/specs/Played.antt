@@ -1,5 +1,5 @@
 -- Calls as numbers, played on an end just made of one of our heads.
-use Rattle.std.specs.Prelude.{◌≡◌, ℕ, Bool, true, false, ◌⊎◌, List, [], ◌∷◌, map}
+use Rattle.std.specs.Prelude.{◌≡◌, ℕ, ◌⊎◌, List, [], ◌∷◌, map}
 use Rattle.end.specs.Deeds.{Deed, nothing, clears, cancels, starts, displaces, ticks, other_socket, both_idle}
 use Rattle.end.specs.Law.{Law}
 use Rattle.end.specs.Records.{Record, book_of}
@@ -9,6 +9,7 @@ use Rattle.head.specs.declared.order.Order.{Order}
 use Rattle.head.specs.declared.setting.Setting.{Setting}
 use Rattle.head.specs.Meaning.{Meaning, busy, put, Dropped}
 use Rattle.head.specs.Settings.{about}
+use Rattle.heads.specs.Any.{can_turn}
 use Rattle.heads.specs.declared.any.HeadKind.{HeadKind}
 use Rattle.heads.specs.declared.any.HeadKind.TheVariants.{Block, Dome, StalledDome}
 use Rattle.heads.specs.declared.motion.Motion.{Motion}
@@ -27,16 +28,11 @@ moves_as Block = AtOnce
 moves_as Dome = Stepwise
 moves_as StalledDome = Stalled
 
-abbrev pub pans : HeadKind → Bool
-pans Block = false
-pans Dome = true
-pans StalledDome = true
-
 -- with its first settings and idle slots
 pub record NewHead (k : HeadKind) (m : Meaning) : Type 0 where
   pub settings : (s : Setting) → m.setting s ≡ (about s).first
   pub slots : m.slots ≡ both_idle
-  pub pantilt : m.pantilt ≡ pans k
+  pub pantilt : m.pantilt ≡ can_turn k
 
 -- What a head that moves as g adds to what a deed means: it leaves nothing to choose.
 

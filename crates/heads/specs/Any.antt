@@ -1,5 +1,5 @@
 -- Heads of one make or another; and which of ours a head is.
-use Rattle.std.specs.Prelude.{ℕ, if◌then◌else◌, List, [], ◌∷◌, Ok, Err, Result, codes}
+use Rattle.std.specs.Prelude.{ℕ, Bool, true, false, if◌then◌else◌, List, [], ◌∷◌, Ok, Err, Result, codes}
 use Rattle.std.specs.Str.{bytes_eq}
 use Rattle.head.specs.Cases.{first_case}
 use Rattle.heads.specs.declared.any.HeadKind.{HeadKind}
@@ -20,6 +20,12 @@ head_named w =
     ∷ (bytes_eq w (codes "stalled"), Ok StalledDome)
     ∷ []
     ) (Err (record {}))
+
+-- whether heads of that kind have pan and tilt
+abbrev pub can_turn : HeadKind → Bool
+can_turn Block = false
+can_turn Dome = true
+can_turn StalledDome = true
 
 -- what a head of either make is
 abbrev pub of_either : {A B C : Type 0} → (A → C) → (B → C) → OneOf A B → C
