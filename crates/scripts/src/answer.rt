@@ -1,5 +1,9 @@
 //! What a call on the end answers, in words: the bytes that it sent, and its fault if there is one.
 
+ghost use Rattle.std.specs.Prelude.{◌≡◌, ◌==◌, ◌&&◌, is_none, length, option_map, take};
+ghost use Rattle.std.specs.Result.{result_err};
+ghost use Rattle.end.specs.Faults.{cause_code, count_told};
+
 use end::{Fault, bytes_sent};
 use fault::FaultCode;
 use hexadecimal::Hex;
@@ -14,7 +18,10 @@ pub struct Answer<'a> {
 
 impl<'a> Answer<'a> {
     /// The answer of a call that left its buffer so: what it sent stands at the front.
-    pub fn new(called: Result<usize, Fault>, buffer: &'a [u8]) -> Answer<'a> {
+    pub fn new(called: Result<usize, Fault>, buffer: &'a [u8]) -> Answer<'a>
+        ensures fault { result.fault ≡ option_map (λ f. cause_code f.cause) (result_err called) }
+        ensures sent { result.sent.now ≡ take (count_told called) buffer.now }
+    {
         Answer {
             fault: called.err().map(FaultCode::from),
             sent: &buffer[..bytes_sent(called).min(buffer.len())],
@@ -22,7 +29,9 @@ impl<'a> Answer<'a> {
     }
 
     /// Neither a fault nor a byte sent.
-    pub fn is_quiet(&self) -> bool {
+    pub fn is_quiet(&self) -> bool
+        ensures { result ≡ (is_none self.now.fault && (length self.now.sent.now == 0)) }
+    {
         self.fault.is_none() && self.sent.is_empty()
     }
 }

@@ -1,7 +1,7 @@
 //! What stands on the bench: nothing until a head line makes an end, then that end to the last
 //! line.
 
-ghost use Rattle.std.specs.Prelude.{◌≡◌, IfOk, option_map};
+ghost use Rattle.std.specs.Prelude.{◌≡◌, IfOk, IsSome, option_map};
 ghost use Rattle.end.specs.Ends.{head_of};
 ghost use Rattle.heads.specs.Any.{kind_of};
 ghost use Rattle.scripts.specs.Scripts.{kind_asked};
@@ -33,7 +33,9 @@ fn begin(rt: &impl Print, line: Line) -> io::Result<Stand>
 }
 
 /// What stands there after a line.
-pub fn go_on(stand: Stand, rt: &impl Print, line: Line) -> io::Result<Stand> {
+pub fn go_on(stand: Stand, rt: &impl Print, line: Line) -> io::Result<Stand>
+    ensures { IsSome stand → IfOk result IsSome }
+{
     match stand {
         None => begin(rt, line),
         Some(end) => Ok(Some(play(rt, end, line)?)),
