@@ -1,6 +1,6 @@
 //! What the packets that the box sends say, in words.
 
-use rules::{Problem, Reply};
+use rules::{Problem, Reply, Unread};
 use std::fmt;
 
 /// The body of a packet that the box sent, to be said in words.
@@ -11,12 +11,17 @@ pub struct InWords<'a>(pub &'a [u8]);
 fn write_reply<W: fmt::Write>(f: &mut fmt::Formatter<W>, reply: Reply) -> fmt::Result {
     match reply {
         Reply::Acknowledgement(socket) => write!(f, "acknowledged in socket {socket}"),
+        Reply::Completion(0) => write!(f, "another packet"),
         Reply::Completion(socket) => write!(f, "done in socket {socket}"),
+        Reply::Error(0, Problem::Syntax) => write!(f, "not understood"),
+        Reply::Error(0, Problem::BufferFull) => write!(f, "both sockets are taken"),
         Reply::Error(0, Problem::NotExecutable) => write!(f, "not possible now"),
-        Reply::Error(socket, Problem::NotExecutable) => write!(f, "jammed in socket {socket}"),
         Reply::Error(socket, Problem::Cancelled) => write!(f, "cancelled in socket {socket}"),
-        // The lecture comes to no other.
-        Reply::Error(..) => write!(f, "another packet"),
+        Reply::Error(socket, Problem::NoSocket) => {
+            write!(f, "nothing to cancel in socket {socket}")
+        }
+        Reply::Error(socket, Problem::NotExecutable) => write!(f, "jammed in socket {socket}"),
+        Reply::Error(..) => write!(f, "another error"),
     }
 }
 
@@ -29,6 +34,7 @@ impl fmt::Display for InWords<'_> {
                 let [p, q, r, s] = [*p, *q, *r, *s].map(u32::from);
                 write!(f, "at {}", p * 4096 + q * 256 + r * 16 + s)
             }
+            (Err(Unread::Error(..)), _) => write!(f, "another error"),
             _ => write!(f, "another packet"),
         }
     }
