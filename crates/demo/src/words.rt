@@ -1,5 +1,8 @@
 //! What the packets that the box sends say, in words.
 
+ghost use Rattle.std.specs.Prelude.{◌≡◌, IfSome};
+ghost use Rattle.rows.specs.Digits.{from_digits};
+
 use rules::{Problem, Reply, Unread};
 use std::fmt;
 
@@ -25,15 +28,20 @@ fn write_reply<W: fmt::Write>(f: &mut fmt::Formatter<W>, reply: Reply) -> fmt::R
     }
 }
 
+// The number of four digits.
+fn number(digits: [u8; 4]) -> u32
+    ensures { IfSome (from_digits digits) (λ n. result ≡ n) }
+{
+    let [p, q, r, s] = digits.map(u32::from);
+    p * 4096 + q * 256 + r * 16 + s
+}
+
 impl fmt::Display for InWords<'_> {
     fn fmt<W: fmt::Write>(&self, f: &mut fmt::Formatter<W>) -> fmt::Result {
         match (Reply::read(self.0), self.0) {
             (Ok(reply), _) => write_reply(f, reply),
             (_, [0x30, next]) => write!(f, "address {next} is for the next camera"),
-            (_, [0x50, p, q, r, s]) => {
-                let [p, q, r, s] = [*p, *q, *r, *s].map(u32::from);
-                write!(f, "at {}", p * 4096 + q * 256 + r * 16 + s)
-            }
+            (_, [0x50, p, q, r, s]) => write!(f, "at {}", number([*p, *q, *r, *s])),
             (Err(Unread::Error(..)), _) => write!(f, "another error"),
             _ => write!(f, "another packet"),
         }
