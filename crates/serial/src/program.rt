@@ -52,7 +52,7 @@ fn arguments<R: Env + AllocGlobal>(rt: &R) -> Result<Arguments, Failure>
     }
 }
 
-// A box over one of our heads, whichever it is.
+// A box over one of our heads, whichever it is: a type with no parameters, which statements can name.
 #[derive(Drop)]
 struct AnyBox {
     port: Port<AnyHead>,
