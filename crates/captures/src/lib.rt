@@ -24,7 +24,9 @@ fn parse(heap: Global, line: &[u8]) -> Result<Option<Vec<u8>>, AllocError> {
     let Ok(line) = from_utf8(line) else {
         return Ok(None);
     };
-    let bytes: Option<Vec<u8>> = line.split_whitespace().map(byte).collect(heap)?;
+    // One word more than there is room for says that there are too many.
+    let words = line.split_whitespace().take(ROOM + 1);
+    let bytes: Option<Vec<u8>> = words.map(byte).collect(heap)?;
     Ok(bytes.filter(|bytes| bytes.len() <= ROOM))
 }
 
