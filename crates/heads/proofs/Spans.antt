@@ -69,10 +69,10 @@ few_on x o a h = by (wants (parts o.targets) (position a)) refl
     by None e = simp e (omega arith)
     by (Some t) e = simp e (few_ticks o.paces a (value_of x (position a)) t (x.ranged (position a)) (wants_in_range (parts o.targets) (position a) t h e))
 
-pub few_of : (m : Motion) (x : Settings) (o : Order) → all_in_range (parts o.targets) ≡ true → ticks_of m (value_of x) o ≤ 1000
+pub few_of : (m : Motion) (x : Settings) (o : Order) → all_in_range (parts o.targets) ≡ true → ticks_of m (value_of x) o ≤ 640
 few_of m x o h =
     let z = few_on x o Zoom h in
     let f = few_on x o Focus h in
     let p = few_on x o Pan h in
     let t = few_on x o Tilt h in
-    elim m as (λ (k : Motion). ticks_of k (value_of x) o ≤ 1000) [ AtOnce ↦ omega arith | Stepwise ↦ omega arith | Stalled ↦ omega arith ]
+    elim m as (λ (k : Motion). ticks_of k (value_of x) o ≤ 640) [ AtOnce ↦ omega arith | Stepwise ↦ omega arith | Stalled ↦ omega arith ]

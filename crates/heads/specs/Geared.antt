@@ -1,5 +1,5 @@
 -- Our heads as what heads mean, and what moves them.
-use Rattle.std.specs.Prelude.{◌≡◌, ◌≢◌, ℕ, false, Result, OnOk, OnErr}
+use Rattle.std.specs.Prelude.{◌≡◌, ◌≢◌, ◌≤◌, ℕ, false, Result, OnOk, OnErr}
 use Rattle.head.specs.declared.order.Order.{Order}
 use Rattle.head.specs.declared.outcome.Endings.{Endings}
 use Rattle.head.specs.declared.outcome.Refusal.{Refusal}
@@ -30,6 +30,8 @@ pub record GearStarts {G : Type 0} {g : Ghosts G} (n : ℕ) (x : Geared G g) (y 
   pub started : Started (geared_meaning x) y o (reason_given r) (geared_meaning z)
   -- the order has n ticks left
   pub ticks : OnOk r ((geared_meaning z).slots ≡ put (geared_meaning x).slots y (busy o n))
+  -- which are not many
+  pub few : OnOk r (n ≤ 640)
   pub gear : gear_of z ≡ gear_of x
   pub refused : OnErr r (rig_of z ≡ rig_of x)
 

@@ -1,6 +1,6 @@
 //! What our heads are made of, and what starts and ticks do to it.
 
-ghost use Rattle.std.specs.Prelude.{◌≡◌, Bool, true, false, is_some, OnOk, OnErr};
+ghost use Rattle.std.specs.Prelude.{◌≡◌, ◌≤◌, Bool, true, false, is_some, OnOk, OnErr};
 ghost use Rattle.std.specs.List.{list_any};
 ghost use Rattle.std.specs.Option.{option_map_or};
 ghost use Rattle.head.specs.declared.setting.Setting.{Setting as S};
@@ -87,6 +87,7 @@ impl Rig {
             (reason_given result) (rig_meaning pan_tilt self.new) }
         ensures ticks { let n = ticks_of self.old.motion (value_of self.old.settings) order.now in
             OnOk result (slots_of self.new.works ≡ put (slots_of self.old.works) slot (busy order.now n)) }
+        ensures few { OnOk result (ticks_of self.old.motion (value_of self.old.settings) order.now ≤ 640) }
         ensures motion { self.new.motion ≡ self.old.motion }
         ensures refused { OnErr result (self.new ≡ self.old) }
     {

@@ -1,4 +1,4 @@
-use Rattle.std.proofs.Common.{◌≡◌, ℕ, Bool, Ok, Err, Result, OnOk, min, arith}
+use Rattle.std.proofs.Common.{◌≡◌, ◌≤◌, ℕ, Bool, Ok, Err, Result, OnOk, min, arith}
 use Rattle.head.specs.declared.outcome.Refusal.{Refusal}
 use Rattle.head.specs.Meaning.{busy, put, order_in, reason, reason_given}
 use Rattle.head.specs.Values.{value_of}
@@ -21,6 +21,18 @@ uncut p x w y o n (Ok u) h e t =
     let same : n ≡ ticks_of x.motion (value_of x.settings) o = omega arith in
     rw (← same) t
 uncut p x w y o n (Err f) h e t = tt
+
+-- an order that is started has its targets in range, so none of ours takes more than 640
+short : (p : Bool) (x : Rig) (y : ℕ) (o : Order) (r : Result (Unit {0}) Refusal)
+    → reason_given r ≡ reason p (order_in (slots_of x.works).one) (order_in (slots_of x.works).two) y o
+    → OnOk r (ticks_of x.motion (value_of x.settings) o ≤ 640)
+short p x y o (Ok u) h =
+    few_of x.motion x.settings o (targets_in_range p (order_in (slots_of x.works).one) (order_in (slots_of x.works).two) y o h)
+short p x y o (Err f) h = tt
+
+pub returns-clause-few : goal.returns-clause-few
+returns-clause-few c =
+    short c.args.pan_tilt c.args.self.now c.args.slot c.args.order.now c.start.result c.start.ensures.first_reason
 
 pub returns-clause-ticks : goal.returns-clause-ticks
 returns-clause-ticks c =
