@@ -86,7 +86,7 @@ fn error(socket: u8, code: u8) -> Result<Reply, Unread>
 
 impl Reply {
     ghost use Rattle.rules.specs.Replies.{ending_reply, packet, reply_of};
-    ghost use Rattle.wire.specs.Line.{over_if_room, count_if_room};
+    ghost use Rattle.wire.specs.Line.{over_if_room, count_if_room, over_at_if_room, next_if_room};
 
     /// What is told of a command's ending in this socket: it is done, or the head jammed.
     pub fn of_ending(socket: u8, ending: Ending) -> Reply
@@ -121,6 +121,15 @@ impl Reply {
                 send_at(out, 0, &[header, 0x60 + y % 16, problem.code(), 0xff])
             }
         }
+    }
+
+    /// Puts the reply's packet into a buffer from a place on, and tells the place behind it; a buffer that is too short
+    /// for it is left as it is.
+    pub fn send_at(self, header: u8, out: &mut [u8], at: usize) -> Option<usize>
+        ensures next { result ≡ next_if_room at (packet header self) out.old }
+        ensures sent { out.new ≡ over_at_if_room at (packet header self) out.old }
+    {
+        send_at(out, at, self.packet(header).as_slice())
     }
 
     /// Reads a body, what stands between header and FF, as a reply.
