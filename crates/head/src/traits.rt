@@ -1,7 +1,8 @@
 //! A head is something that can be looked at and, beyond that, ordered.
 //!
 //! Ghost members tell what an implementation means: its settings, whether it has pan and tilt,
-//! and its slots. The promises of the methods speak of these and of nothing else.
+//! and its slots. What is asked is told by these. What a call does to a head is a relation of the implementation's own, which
+//! may say more; laws say what it means for these three, and a caller who knows no more than the trait knows that.
 
 ghost use Rattle.std.specs.Prelude.{◌≡◌, ℕ, Bool, true, ℤ, Result};
 ghost use Rattle.head.specs.declared.order.Order.{Order};

@@ -1,5 +1,5 @@
 //! A box on a serial line: what it does after each read of the line, how many ticks the clock owes it, and when
-//! the line has fallen silent for good. The program `r3` reads, asks the clock, and calls this.
+//! the line has fallen silent for good. The program `r3` is its standard streams and a call of this.
 
 #![tactic(auto)]
 

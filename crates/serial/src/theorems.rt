@@ -2,7 +2,8 @@
 
 ghost use Rattle.serial.specs.Theorems.{ReadsOweTogether};
 
-/// Reads at any pace owe together what one read would.
+/// Two reads owe together what the second alone would, and leave the same time paid, if the clock does not go back and
+/// the second alone would find no more than 50 ticks due.
 pub fn reads_owe_together()
     ensures { ReadsOweTogether }
 {}
