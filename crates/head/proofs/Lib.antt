@@ -1,4 +1,5 @@
 pub mod Options
+pub mod PanTilt
 pub mod Tables
 pub mod Bounds
 pub mod Wants

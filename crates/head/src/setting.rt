@@ -34,7 +34,7 @@ pub enum Setting {
 
 impl Setting {
     ghost use Rattle.std.specs.Prelude.{◌<◌, length, is_some};
-    ghost use Rattle.head.specs.Settings.{about, all, number as number_of, in_range};
+    ghost use Rattle.head.specs.Settings.{about, all, number as number_of, in_range, is_pan_tilt};
 
     /// How many settings there are.
     pub const COUNT: usize = 22;
@@ -117,6 +117,16 @@ impl Setting {
             || self == Setting::Focus
             || self == Setting::Pan
             || self == Setting::Tilt
+    }
+
+    /// Whether this is pan, tilt or a drive of theirs.
+    pub(crate) fn is_pan_tilt(self) -> bool
+        ensures { result ≡ is_pan_tilt self }
+    {
+        matches!(
+            self,
+            Setting::Pan | Setting::Tilt | Setting::PanDrive | Setting::TiltDrive
+        )
     }
 
     /// The axis whose position this is.
