@@ -109,6 +109,17 @@ impl Setting {
         self.range().contains(value)
     }
 
+    /// The value with which our heads are made.
+    pub(crate) fn first(self) -> i32
+        ensures { result ≡ (about self).first }
+    {
+        match self {
+            Setting::Power | Setting::FocusMode => 2,
+            Setting::Freeze | Setting::Mute | Setting::Infrared => 3,
+            _ => 0,
+        }
+    }
+
     /// Whether this is the position of an axis.
     pub fn is_position(self) -> bool
         ensures { result ≡ is_some (about self).axis }

@@ -46,32 +46,8 @@ impl Settings {
     pub fn new() -> Settings
         ensures { (s : S) → value_of result s ≡ (about s).first }
     {
-        // Written out, and not mapped from a list of settings, which took twenty times as long.
         Settings {
-            values: [
-                2, // power
-                0, // zoom
-                0, // zoom drive
-                2, // focus mode
-                0, // focus
-                0, // focus drive
-                0, // white balance
-                0, // red gain
-                0, // blue gain
-                0, // exposure mode
-                0, // shutter
-                0, // iris
-                0, // gain
-                0, // bright
-                3, // freeze
-                3, // mute
-                3, // infrared
-                0, // identity
-                0, // pan
-                0, // tilt
-                0, // pan drive
-                0, // tilt drive
-            ],
+            values: Setting::ALL.map(Setting::first),
         }
     }
 
