@@ -114,22 +114,23 @@ impl Reply {
         ensures count { result ≡ count_if_room (packet header self) out.old }
         ensures sent { out.new ≡ over_if_room (packet header self) out.old }
     {
-        match self {
-            Reply::Acknowledgement(y) => send_at(out, 0, &[header, 0x40 + y % 16, 0xff]),
-            Reply::Completion(y) => send_at(out, 0, &[header, 0x50 + y % 16, 0xff]),
-            Reply::Error(y, problem) => {
-                send_at(out, 0, &[header, 0x60 + y % 16, problem.code(), 0xff])
-            }
-        }
+        self.send_at(header, out, 0)
     }
 
     /// Puts the reply's packet into a buffer from a place on, and tells the place behind it; a buffer that is too short
     /// for it is left as it is.
+    #[inline]
     pub fn send_at(self, header: u8, out: &mut [u8], at: usize) -> Option<usize>
         ensures next { result ≡ next_if_room at (packet header self) out.old }
         ensures sent { out.new ≡ over_at_if_room at (packet header self) out.old }
     {
-        send_at(out, at, self.packet(header).as_slice())
+        match self {
+            Reply::Acknowledgement(y) => send_at(out, at, &[header, 0x40 + y % 16, 0xff]),
+            Reply::Completion(y) => send_at(out, at, &[header, 0x50 + y % 16, 0xff]),
+            Reply::Error(y, problem) => {
+                send_at(out, at, &[header, 0x60 + y % 16, problem.code(), 0xff])
+            }
+        }
     }
 
     /// Reads a body, what stands between header and FF, as a reply.
