@@ -87,11 +87,11 @@ in_range s v = within (about s).range v
 abbrev pub value_in : List ℤ → Setting → ℤ
 value_in vs s = slice_index_or vs (number s) (pos 0)
 
--- the two settings of an axis
 -- pan, tilt and their drives
 abbrev pub is_pan_tilt : Setting → Bool
 is_pan_tilt s = same s Pan || same s Tilt || same s PanDrive || same s TiltDrive
 
+-- the two settings of an axis
 abbrev pub position : Axis → Setting
 position axis.Zoom = Zoom
 position axis.Focus = Focus
